@@ -1,0 +1,37 @@
+-- Characters and bytes, and the checksum (document 01, "The frame"). Assumes nothing.
+use Prim.Native.Nat.{ℕ, _+_, _-_, _*_, _/_, _%_}
+use mathlib.Core.List.{List, [], _∷_}
+use mathlib.Core.Bool.{Bool, true, cond, _&&_, _||_}
+use lib.Dec.{ltb}
+use Rattle.laws.specs.Bytes.{sumOf}
+use Rattle.laws.specs.Checks.{within}
+
+-- a digit is one of 48..57 and 65..70. 001's own decoding rule has no such test and would read 58..64 as something
+unfoldable pub isDigit : ℕ → Bool
+isDigit c = within 48 57 c || within 65 70 c
+
+unfoldable pub allDigits : List ℕ → Bool
+allDigits [] = true
+allDigits (c ∷ cs) = isDigit c && allDigits cs
+
+-- what a digit stands for
+unfoldable pub valueOf : ℕ → ℕ
+valueOf c = cond (ltb c 58) (c - 48) (c - 55)
+
+-- a half of a byte is sent as itself plus 48 below 10, else plus 55
+unfoldable pub charOf : ℕ → ℕ
+charOf h = cond (ltb h 10) (h + 48) (h + 55)
+
+-- two characters a byte, high half first; and back
+unfoldable pub charsOf : List ℕ → List ℕ
+charsOf [] = []
+charsOf (b ∷ bs) = charOf (b / 16) ∷ (charOf (b % 16) ∷ charsOf bs)
+
+unfoldable pub bytesOf : List ℕ → List ℕ
+bytesOf [] = []
+bytesOf (x ∷ []) = []
+bytesOf (x ∷ (y ∷ cs)) = (16 * valueOf x + valueOf y) ∷ bytesOf cs
+
+-- the checksum: the 8-bit sum inverted, which is 255 less it, plus 1, kept to 8 bits. A sum of 0 gives 0
+unfoldable pub checksumOf : List ℕ → ℕ
+checksumOf bytes = (255 - sumOf bytes % 256 + 1) % 256

@@ -1,0 +1,4 @@
+// The frame of document 01: taking one apart and building one.
+mod answer;
+
+pub use answer::Answer;

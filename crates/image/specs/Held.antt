@@ -1,0 +1,29 @@
+-- Which parts of a table are held (document 01, "The image", and its word's bits). Assumes nothing.
+use Prim.Native.Nat.{ℕ, zero, suc, _-_}
+use mathlib.Core.List.{List, [], _∷_}
+use mathlib.Core.Bool.{cond}
+use lib.Dec.{eqb}
+use Rattle.laws.specs.Checks.{check, judged}
+use Rattle.laws.specs.Bits.{bit, onesIn}
+use Rattle.image.specs.declared.held.Held.{Held}
+use Rattle.image.specs.Cell.{isTable, place}
+use Rattle.image.specs.Image.{Version, word, usable}
+
+-- the least of the n parts from part p on whose bit, p - 1, is 0; 0 if there is none
+unfoldable pub missingFrom : ℕ → ℕ → ℕ → ℕ
+missingFrom w p zero = 0
+missingFrom w p (suc n) = cond (eqb (bit w (p - 1)) 0) p (missingFrom w (suc p) n)
+
+-- of a table's eleven
+unfoldable pub lowestMissing : ℕ → ℕ
+lowestMissing w = missingFrom w 1 11
+
+unfoldable pub heldOf : ℕ → Held
+heldOf w = record { number = 0; parts = onesIn 11 w; missing = lowestMissing w }
+
+-- a refusal reports two zeros
+abbrev pub unheld : ℕ → Held
+unheld n = record { number = n; parts = 0; missing = 0 }
+
+unfoldable pub heldParts : Version → List ℕ → ℕ → Held
+heldParts v m t = judged unheld (check 1 (usable v m) ∷ (check 10 (isTable t) ∷ [])) (heldOf (word m (place t)))

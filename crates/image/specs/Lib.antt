@@ -1,0 +1,3 @@
+pub mod Cell
+pub mod Image
+pub mod Held

@@ -1,0 +1,1 @@
+// The block as the customer sees it.

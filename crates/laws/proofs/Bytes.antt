@@ -1,0 +1,190 @@
+-- Laws of `part`, `lay` and what is counted of bytes. Assumes nothing.
+use mathlib.Core.Path.{_≡_, refl, sym, ap, _∙_}
+use mathlib.Core.List.{List, [], _∷_, _++_, append-assoc}
+use Prim.Native.Nat.{ℕ, zero, suc, _+_, _-_, _/_, _%_, _≤_, _<_}
+use native.Mathlib.Nat.{not-suc-le-zero}
+use native.Mathlib.Numerals.{add-one}
+use native.Mathlib.Omega.{arith}
+use lib.ListN.{length, getD, take, drop, set, length-take, length-drop, length-set, length-append, length-replicate, List·getD-append}
+use lib.Seq.{length-sets, sets-eq, set-comm, set-set, getD-set-same, getD-set-other, getD-take, getD-drop, ext-getD, take-at, drop-at, take-append-le, length-take-le}
+use Rattle.laws.specs.Bytes.{part, lay, zeros, padded, two, pair}
+
+-- i lies in the n bytes from a
+abbrev pub In : ℕ → ℕ → ℕ → Type 0
+In a n i = (a ≤ i) × (i < a + n)
+
+-- two stretches share no byte
+abbrev pub Apart : ℕ → ℕ → ℕ → ℕ → Type 0
+Apart a n b m = (i : ℕ) → In a n i → ¬ In b m i
+
+-- ---- laying, as a loop does it
+
+pub lay-none : (l : List ℕ) (k : ℕ) → lay l k [] ≡ l
+unfolding lay
+lay-none l k = refl
+
+pub lay-one : (l : List ℕ) (k v : ℕ) → set l k v ≡ lay l k (v ∷ [])
+unfolding lay
+lay-one l k v = refl
+
+-- what is left to be laid, after its first element was stored
+pub lay-next : (w R L L′ : List ℕ) (k v : ℕ) → L ≡ v ∷ L′ → lay w k L ≡ R → lay (set w k v) (k + 1) L′ ≡ R
+unfolding lay
+lay-next w R L L′ k v e h = rw add-one (rw e at h)
+
+pub lay-done : (w R L : List ℕ) (k : ℕ) → L ≡ [] → lay w k L ≡ R → w ≡ R
+unfolding lay
+lay-done w R L k e h = rw e at h
+
+pub length-lay : (l : List ℕ) (i : ℕ) (vs : List ℕ) → length (lay l i vs) ≡ length l
+unfolding lay
+length-lay l i vs = length-sets l i vs
+
+-- laying one after the other
+pub lay-append : (l : List ℕ) (i : ℕ) (vs ws : List ℕ) → lay l i (vs ++ ws) ≡ lay (lay l i vs) (i + length vs) ws
+unfolding lay
+lay-append l i [] ws = let e : i + 0 ≡ i = omega arith in rw e
+lay-append l i (v ∷ vs) ws =
+    let e : i + suc (length vs) ≡ suc i + length vs = omega arith in
+    rw e (lay-append (set l i v) (suc i) vs ws)
+
+-- a cursor's step in a loop: w with M laid at k is w′, and the cursor stands past M
+pub lay-more : (w w′ R L M L′ : List ℕ) (k k′ : ℕ) → L ≡ M ++ L′ → w′ ≡ lay w k M → k′ ≡ k + length M → lay w k L ≡ R → lay w′ k′ L′ ≡ R
+lay-more w w′ R L M L′ k k′ e a b h = rw (a, b, ← lay-append, ← e) h
+
+-- two steps of a cursor are one
+pub lay-trans : (o o₁ o₂ M N : List ℕ) (k k₁ : ℕ) → o₁ ≡ lay o k M → k₁ ≡ k + length M → o₂ ≡ lay o₁ k₁ N → o₂ ≡ lay o k (M ++ N)
+lay-trans o o₁ o₂ M N k k₁ a b e = rw lay-append (rw (← a, ← b) e)
+
+-- ---- laying, byte by byte
+
+pub lay-out : (m : List ℕ) (a : ℕ) (bs : List ℕ) (i : ℕ) → ¬ In a (length bs) i → getD (lay m a bs) i 0 ≡ getD m i 0
+unfolding lay
+lay-out m a [] i h = refl
+lay-out m a (b ∷ bs) i h =
+    lay-out (set m a b) (suc a) bs i (λ p. h (omega arith, omega arith))
+    ∙ getD-set-other m a i b 0 (λ e. h (omega arith, omega arith))
+
+pub lay-in : (m : List ℕ) (a : ℕ) (bs : List ℕ) (j : ℕ) → j < length bs → a + j < length m → getD (lay m a bs) (a + j) 0 ≡ getD bs j 0
+unfolding lay
+lay-in m a [] j h g = absurd (not-suc-le-zero h)
+lay-in m a (b ∷ bs) zero h g =
+    let e : a + 0 ≡ a = omega arith in
+    rw e (lay-out (set m a b) (suc a) bs a (λ p. absurd (omega arith)) ∙ getD-set-same m a b 0 (omega arith))
+lay-in m a (b ∷ bs) (suc j) h g =
+    let e : a + suc j ≡ suc a + j = omega arith in
+    rw e (lay-in (set m a b) (suc a) bs j (omega arith) (rw length-set (omega arith)))
+
+-- ---- two that do not overlap commute; one at the same place covers the other
+
+set-lay : (m : List ℕ) (i v b : ℕ) (ys : List ℕ) → ¬ In b (length ys) i → set (lay m b ys) i v ≡ lay (set m i v) b ys
+unfolding lay
+set-lay m i v b [] h = refl
+set-lay m i v b (y ∷ ys) h =
+    set-lay (set m b y) i v (suc b) ys (λ p. h (omega arith, omega arith))
+    ∙ ap (λ (l : List ℕ). lay l (suc b) ys) (set-comm m b i y v (λ e. h (omega arith, omega arith)))
+
+pub lay-swap : (m : List ℕ) (a : ℕ) (xs : List ℕ) (b : ℕ) (ys : List ℕ) → Apart a (length xs) b (length ys) → lay (lay m a xs) b ys ≡ lay (lay m b ys) a xs
+unfolding lay
+lay-swap m a [] b ys h = refl
+lay-swap m a (x ∷ xs) b ys h =
+    lay-swap (set m a x) (suc a) xs b ys (λ i p. h i (omega arith, omega arith))
+    ∙ ap (λ (l : List ℕ). lay l (suc a) xs) (sym (set-lay m a x b ys (h a (omega arith, omega arith))))
+
+pub lay-over : (m : List ℕ) (a : ℕ) (xs ys : List ℕ) → length xs ≡ length ys → lay (lay m a xs) a ys ≡ lay m a ys
+unfolding lay
+lay-over m a [] [] e = refl
+lay-over m a [] (y ∷ ys) e = absurd (omega arith)
+lay-over m a (x ∷ xs) [] e = absurd (omega arith)
+lay-over m a (x ∷ xs) (y ∷ ys) e =
+    ap (λ (l : List ℕ). lay l (suc a) ys) (set-lay (set m a x) a y (suc a) xs (λ p. absurd (omega arith)) ∙ ap (λ (l : List ℕ). lay l (suc a) xs) (set-set m a x y))
+    ∙ lay-over (set m a y) (suc a) xs ys (omega arith)
+
+-- ---- at the start of a list
+
+module _ (z l : List ℕ) (fits : length l ≤ length z) where
+  pub lay-start : lay z 0 l ≡ l ++ drop (length l) z
+  unfolding lay
+  lay-start =
+      let h : 0 + length l ≤ length z = omega arith in
+      let e : 0 + length l ≡ length l = omega arith in
+      sets-eq l z 0 h ∙ ap (λ (n : ℕ). l ++ drop n z) e
+
+  pub lay-take : (n : ℕ) → n ≤ length l → take n (lay z 0 l) ≡ take n l
+  lay-take n h = rw lay-start (take-append-le n l _ h)
+
+  pub lay-at : (k : ℕ) → k < length l → getD (lay z 0 l) k 0 ≡ getD l k 0
+  lay-at k h = rw lay-start (List·getD-append l _ 0 k h)
+
+  -- what follows is as it was
+  pub lay-rest : drop (length l) (lay z 0 l) ≡ drop (length l) z
+  lay-rest = rw lay-start (drop-at l (drop (length l) z) (length l) refl)
+
+-- ---- a part
+
+pub length-part : (at n : ℕ) (l : List ℕ) → at + n ≤ length l → length (part at n l) ≡ n
+unfolding part
+length-part at n l h = length-take-le n (drop at l) (omega (arith, length-drop at l))
+
+pub part-most : (at n : ℕ) (l : List ℕ) → length (part at n l) ≤ n
+unfolding part
+part-most at n l = omega (arith, length-take n (drop at l))
+
+-- the slice from an offset to an end
+pub part-is : (at e n : ℕ) (l : List ℕ) → e - at ≡ n → take (e - at) (drop at l) ≡ part at n l
+unfolding part
+part-is at e n l h = rw h
+
+-- what was laid is read
+pub part-lay : (m : List ℕ) (a n : ℕ) (bs : List ℕ) → n ≤ length bs → a + length bs ≤ length m → part a n (lay m a bs) ≡ take n bs
+unfolding part lay
+part-lay m a n bs h g =
+    let e : length (take a m) ≡ a = length-take-le a m (omega arith) in
+    ap (λ (l : List ℕ). take n (drop a l)) (sets-eq bs m a g ∙ append-assoc (take a m) bs (drop (a + length bs) m))
+    ∙ ap (take n) (drop-at (take a m) (bs ++ drop (a + length bs) m) a e)
+    ∙ take-append-le n bs (drop (a + length bs) m) h
+
+-- two lists that agree on a stretch have one part there
+pub part-same : (m m′ : List ℕ) (a n : ℕ) → length m ≡ length m′ → ((i : ℕ) → In a n i → getD m i 0 ≡ getD m′ i 0) → part a n m ≡ part a n m′
+unfolding part
+part-same m m′ a n e h =
+    ext-getD 0 _ _ (simp (length-take, length-drop, e))
+    (λ k l. let lt : k < n = omega (arith, simp length-take at l) in simp (getD-take, getD-drop) (h (a + k) (omega arith, omega arith)))
+
+-- so elsewhere is read what was there
+pub part-out : (m : List ℕ) (a n b : ℕ) (bs : List ℕ) → Apart a n b (length bs) → part a n (lay m b bs) ≡ part a n m
+part-out m a n b bs h = part-same (lay m b bs) m a n (length-lay m b bs) (λ i p. lay-out m b bs i (h i p))
+
+-- ---- padding, and numbers of two bytes
+
+pub length-zeros : (n : ℕ) → length (zeros n) ≡ n
+unfolding zeros
+length-zeros n = length-replicate {A = ℕ} n 0
+
+pub length-padded : (n : ℕ) (bs : List ℕ) → length bs ≤ n → length (padded n bs) ≡ n
+unfolding padded
+length-padded n bs h = omega (arith, length-append bs (zeros (n - length bs)), length-zeros (n - length bs))
+
+pub take-padded : (n : ℕ) (bs : List ℕ) → take (length bs) (padded n bs) ≡ bs
+unfolding padded
+take-padded n bs = take-at bs (zeros (n - length bs)) (length bs) refl
+
+pub padded-at : (n : ℕ) (bs : List ℕ) (k : ℕ) → k < length bs → getD (padded n bs) k 0 ≡ getD bs k 0
+unfolding padded
+padded-at n bs k h = List·getD-append bs (zeros (n - length bs)) 0 k h
+
+pub length-two : (v : ℕ) → length (two v) ≡ 2
+unfolding two
+length-two v = refl
+
+pub pair-two : (m : List ℕ) (a v : ℕ) → a + 2 ≤ length m → pair (lay m a (two v)) a ≡ v
+unfolding pair two
+pair-two m a v h =
+    let e : a + 0 ≡ a = omega arith in
+    let p : getD (lay m a (two v)) a 0 ≡ v / 256 = rw e at (lay-in m a (two v) 0 (omega arith) (omega arith)) in
+    let q : getD (lay m a (two v)) (a + 1) 0 ≡ v % 256 = lay-in m a (two v) 1 (omega arith) (omega arith) in
+    rw (p, q) (omega arith)
+
+pub pair-out : (m : List ℕ) (a : ℕ) (bs : List ℕ) (i : ℕ) → ¬ In a (length bs) i → ¬ In a (length bs) (i + 1) → pair (lay m a bs) i ≡ pair m i
+unfolding pair
+pair-out m a bs i h g = rw (lay-out m a bs i h, lay-out m a bs (i + 1) g)

@@ -1,0 +1,95 @@
+-- Laws of the first check that fails. Assumes nothing.
+use mathlib.Core.Path.{_≡_, refl, sym, ap, _∙_}
+use mathlib.Core.Logic.{_⊎_, inl, inr}
+use mathlib.Core.List.{List, [], _∷_, _++_, List·Memᴰ, List·Memᴰ·cases-cons, List·Memᴰ·not-nil}
+use mathlib.Core.Bool.{Bool, true, false, cond}
+use Prim.Native.Nat.{ℕ, _≤_, _<_}
+use native.Mathlib.Omega.{arith}
+use lib.Dec.{ltb}
+use borrow.Author.Tests.{ltb-true}
+use Rattle.laws.specs.Checks.{Check, judged, firstFailing, risingFrom}
+use Rattle.laws.proofs.Tests.{and-both, never}
+
+-- every check of the list passes
+abbrev pub AllPass : List Check → Type 0
+AllPass [] = Unit {0}
+AllPass (c ∷ cs) = (c .passes ≡ true) × AllPass cs
+
+-- what is done with the answer may be done within
+pub judged-map : {A B : Type 0} (g : A → B) (refuse : ℕ → A) (cs : List Check) (after : A) → g (judged refuse cs after) ≡ judged (λ n. g (refuse n)) cs (g after)
+unfolding judged
+judged-map {B} g refuse [] after = refl
+judged-map {A} {B} g refuse (c ∷ cs) after = go (c .passes) (judged-map g refuse cs after)
+  where
+    go : (t : Bool) → g (judged refuse cs after) ≡ judged (λ n. g (refuse n)) cs (g after)
+        → g (cond t (judged refuse cs after) (refuse (c .number))) ≡ cond t (judged (λ n. g (refuse n)) cs (g after)) (g (refuse (c .number)))
+    go true ih = ih
+    go false ih = refl
+
+-- one list after another
+pub judged-append : {A : Type 0} (refuse : ℕ → A) (cs ds : List Check) (after : A) → judged refuse (cs ++ ds) after ≡ judged refuse cs (judged refuse ds after)
+unfolding judged
+judged-append refuse [] ds after = refl
+judged-append refuse (c ∷ cs) ds after = ap (λ x. cond (c .passes) x (refuse (c .number))) (judged-append refuse cs ds after)
+
+-- where all pass, what follows is the answer
+pub judged-passed : {A : Type 0} (refuse : ℕ → A) (cs : List Check) (after : A) → AllPass cs → judged refuse cs after ≡ after
+unfolding judged
+judged-passed refuse [] after p = refl
+judged-passed refuse (c ∷ cs) after p = rw (p .0) (judged-passed refuse cs after (p .1))
+
+-- either all pass, or one answer serves every reading of the list
+pub data Judged (cs : List Check) : Type 1 where
+  passed : AllPass cs → Judged cs
+  failed : (n : ℕ) → firstFailing cs ≡ n → ((A : Type 0) (refuse : ℕ → A) (after : A) → judged refuse cs after ≡ refuse n) → Judged cs
+
+pub judge : (cs : List Check) → Judged cs
+unfolding judged firstFailing
+judge [] = passed tt
+judge (c ∷ cs) = go (c .passes) refl (judge cs)
+  where
+    go : (t : Bool) → c .passes ≡ t → Judged cs → Judged (c ∷ cs)
+    go true e (passed p) = passed (e, p)
+    go true e (failed n f h) = failed n (rw e f) (λ A refuse after. rw e (h A refuse after))
+    go false e j = failed (c .number) (rw e) (λ A refuse after. rw e)
+
+-- ---- by the number of the first that fails, where no check is numbered 0
+
+rising-some : (k : ℕ) (c : Check) (cs : List Check) → risingFrom k (c ∷ cs) ≡ true → (k < c .number) × (risingFrom (c .number) cs ≡ true)
+unfolding risingFrom
+rising-some k c cs h = let p = and-both (ltb k (c .number)) (risingFrom (c .number) cs) h in (ltb-true _ _ (p .0), p .1)
+
+-- numbers that rise from k: none that fails is at most k
+pub failing-above : (k : ℕ) (cs : List Check) → risingFrom k cs ≡ true → (firstFailing cs ≡ 0) ⊎ (k < firstFailing cs)
+unfolding firstFailing judged
+failing-above k [] h = inl refl
+failing-above k (c ∷ cs) h = go (c .passes) (rising-some k c cs h) (failing-above (c .number) cs (rising-some k c cs h .1))
+  where
+    go : (t : Bool) → (k < c .number) × (risingFrom (c .number) cs ≡ true) → (firstFailing cs ≡ 0) ⊎ (c .number < firstFailing cs)
+        → (cond t (judged (λ n. n) cs 0) (c .number) ≡ 0) ⊎ (k < cond t (judged (λ n. n) cs 0) (c .number))
+    go true p (inl e) = inl e
+    go true p (inr l) = inr (omega arith)
+    go false p r = inr (p .0)
+
+-- lowest number first: any check that fails has a number no lower than the one that is given
+pub lowest-first : {c : Check} (k : ℕ) (cs : List Check) → risingFrom k cs ≡ true → List·Memᴰ c cs → c .passes ≡ false → (firstFailing cs ≤ c .number) × (k < firstFailing cs)
+unfolding firstFailing judged
+lowest-first k [] h m f = absurd (List·Memᴰ·not-nil m)
+lowest-first {c} k (d ∷ cs) h m f = go (d .passes) refl (rising-some k d cs h) (List·Memᴰ·cases-cons m) (λ i. lowest-first (d .number) cs (rising-some k d cs h .1) i f) (above c cs)
+  where
+    above : (c : Check) (cs : List Check) → (j : ℕ) → risingFrom j cs ≡ true → List·Memᴰ c cs → j < c .number
+    above c [] j r i = absurd (List·Memᴰ·not-nil i)
+    above c (x ∷ cs) j r i = later (rising-some j x cs r) (List·Memᴰ·cases-cons i) (λ s t. above c cs (x .number) s t)
+      where
+        later : (j < x .number) × (risingFrom (x .number) cs ≡ true) → (c ≡ x) ⊎ List·Memᴰ c cs → (risingFrom (x .number) cs ≡ true → List·Memᴰ c cs → x .number < c .number) → j < c .number
+        later p (inl e) ih = rw e (p .0)
+        later p (inr i) ih = let z = ih (p .1) i in omega arith
+
+    go : (t : Bool) → d .passes ≡ t → (k < d .number) × (risingFrom (d .number) cs ≡ true) → (c ≡ d) ⊎ List·Memᴰ c cs
+        → (List·Memᴰ c cs → (firstFailing cs ≤ c .number) × (d .number < firstFailing cs))
+        → ((j : ℕ) → risingFrom j cs ≡ true → List·Memᴰ c cs → j < c .number)
+        → (cond t (judged (λ n. n) cs 0) (d .number) ≤ c .number) × (k < cond t (judged (λ n. n) cs 0) (d .number))
+    go true e p (inl i) ih ab = absurd (never (sym f ∙ rw i e))
+    go true e p (inr i) ih ab = let z = ih i in (z .0, omega arith)
+    go false e p (inl i) ih ab = (rw i (omega arith), p .0)
+    go false e p (inr i) ih ab = let z = ab (d .number) (p .1) i in (omega arith, p .0)

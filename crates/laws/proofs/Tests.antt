@@ -1,0 +1,74 @@
+-- What tests mean. Assumes nothing.
+use mathlib.Core.Path.{_≡_, refl}
+use mathlib.Core.Logic.{_⊎_, inl, inr}
+use mathlib.Core.Bool.{Bool, true, false, _&&_, _||_, and-false}
+use Prim.Native.Nat.{ℕ, zero, suc, _+_, _≤_, _<_}
+use native.Mathlib.Decide.{ℕ-discrete}
+use native.Mathlib.Numerals.{add-one}
+use native.Mathlib.Omega.{arith}
+use lib.Dec.{leb}
+use borrow.Author.Tests.{leb-true, le-leb, lt-leb}
+use Rattle.laws.specs.Checks.{within, every}
+
+pub never : _≡_ {A = Bool} false true → ⊥
+never e = let z : _≡_ {A = ℕ} 0 1 = cc in omega arith
+
+pub and-both : (a b : Bool) → (a && b) ≡ true → (a ≡ true) × (b ≡ true)
+and-both true b e = (refl, e)
+and-both false b e = absurd (never e)
+
+pub or-either : (a b : Bool) → (a || b) ≡ true → (a ≡ true) ⊎ (b ≡ true)
+or-either true b e = inl refl
+or-either false b e = inr e
+
+-- ---- from a to b
+
+pub within-is : (a b n : ℕ) → within a b n ≡ true → (a ≤ n) × (n ≤ b)
+unfolding within
+within-is a b n h = let p = and-both (leb a n) (leb n b) h in (leb-true _ _ (p .0), leb-true _ _ (p .1))
+
+pub within-in : (a b n : ℕ) → a ≤ n → n ≤ b → within a b n ≡ true
+unfolding within
+within-in a b n h g = rw (le-leb _ _ h, le-leb _ _ g)
+
+pub within-below : (a b n : ℕ) → n < a → within a b n ≡ false
+unfolding within
+within-below a b n h = rw (lt-leb _ _ h)
+
+pub within-above : (a b n : ℕ) → b < n → within a b n ≡ false
+unfolding within
+within-above a b n h = rw (lt-leb _ _ h, and-false)
+
+-- ---- a test at each number below n
+
+module _ (t : ℕ → Bool) where
+  pub every-none : every t 0 ≡ true
+  unfolding every
+  every-none = refl
+
+  pub every-next : (i : ℕ) → every t i ≡ true → t i ≡ true → every t (i + 1) ≡ true
+  unfolding every
+  every-next i h e = rw (add-one, e, h)
+
+  pub every-fails : (n i : ℕ) → i < n → t i ≡ false → every t n ≡ false
+  unfolding every
+  every-fails zero i h e = absurd (omega arith)
+  every-fails (suc n) i h e = go (ℕ-discrete i n) (λ g. every-fails n i g e)
+    where
+      go : Dec (i ≡ n) → (i < n → every t n ≡ false) → (t n && every t n) ≡ false
+      go (yes p) r = rw (← p, e)
+      go (no p) r = rw (r (omega arith), and-false)
+
+  pub every-at : (n i : ℕ) → every t n ≡ true → i < n → t i ≡ true
+  unfolding every
+  every-at zero i h l = absurd (omega arith)
+  every-at (suc n) i h l = go (and-both (t n) (every t n) h) (ℕ-discrete i n) (λ g m. every-at n i g m)
+    where
+      go : (t n ≡ true) × (every t n ≡ true) → Dec (i ≡ n) → (every t n ≡ true → i < n → t i ≡ true) → t i ≡ true
+      go p (yes e) ih = rw e (p .0)
+      go p (no e) ih = ih (p .1) (omega arith)
+
+  pub every-of : (n : ℕ) → ((i : ℕ) → i < n → t i ≡ true) → every t n ≡ true
+  unfolding every
+  every-of zero h = refl
+  every-of (suc n) h = rw (h n (omega arith), every-of n (λ i l. h i (omega arith)))

@@ -1,0 +1,37 @@
+-- Checks, in document 01's sense: each has a refusal number, and the first that fails decides. Assumes nothing.
+use Prim.Native.Nat.{ℕ, zero, suc}
+use mathlib.Core.List.{List, [], _∷_}
+use mathlib.Core.Bool.{Bool, true, cond, _&&_}
+use lib.Dec.{leb, ltb}
+
+pub record Check : Type 0 where
+  pub number : ℕ
+  pub passes : Bool
+
+abbrev pub check : ℕ → Bool → Check
+check n t = record { number = n; passes = t }
+
+-- the refusal of the first check that fails; where none does, what follows
+unfoldable pub judged : {A : Type 0} → (ℕ → A) → List Check → A → A
+judged refuse [] after = after
+judged refuse (c ∷ cs) after = cond (c .passes) (judged refuse cs after) (refuse (c .number))
+
+-- its number, 0 where none fails
+unfoldable pub firstFailing : List Check → ℕ
+firstFailing cs = judged (λ n. n) cs 0
+
+-- each number is above the one before it, the first above n: then the first check that fails is the lowest that does
+unfoldable pub risingFrom : ℕ → List Check → Bool
+risingFrom n [] = true
+risingFrom n (c ∷ cs) = ltb n (c .number) && risingFrom (c .number) cs
+
+-- ---- tests that the checks are made of
+
+-- from a to b
+unfoldable pub within : ℕ → ℕ → ℕ → Bool
+within a b n = leb a n && leb n b
+
+-- a test at each number below n
+unfoldable pub every : (ℕ → Bool) → ℕ → Bool
+every t zero = true
+every t (suc n) = t n && every t n

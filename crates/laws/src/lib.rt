@@ -1,0 +1,1 @@
+// No code: specs/ has the vocabulary that every layer's definitions share, proofs/ its laws.

@@ -1,0 +1,1 @@
+// No code: demand 3, proved over the definition of serving.
