@@ -1,0 +1,35 @@
+-- The four useless blocks that document 01 ("How tight the promises are") wants shut out, each by what it would do. Assumes nothing.
+use Prim.Native.Nat.{ℕ, suc}
+use mathlib.Core.Path.{_≡_}
+use mathlib.Core.Logic.{_≢_}
+use mathlib.Core.List.{List}
+use lib.ListN.{take}
+use Rattle.image.specs.Image.{first}
+use Rattle.command.specs.Serve.{After}
+use Rattle.izk.specs.Block.{served}
+
+-- a block as it looks from outside: its n-th call, from 0, on a frame, an image and an output. What it keeps between calls shows in n
+abbrev pub Block : Type 0
+Block = ℕ → List ℕ → List ℕ → List ℕ → After
+
+-- it keeps the promise of serving at every call
+abbrev pub Keeps : Block → Type 0
+Keeps b = (n : ℕ) (f m out : List ℕ) → b n f m out ≡ served first f m out
+
+-- the reply that a call sends
+abbrev pub replyOf : After → List ℕ
+replyOf a = take (a .len) (a .out)
+
+abbrev pub RefusesAll : Block → Type 0
+RefusesAll b = (n : ℕ) (f m out : List ℕ) → b n f m out .number ≢ 0
+
+abbrev pub RepliesTheSame : Block → Type 0
+RepliesTheSame b = (n k : ℕ) (f g m out : List ℕ) → replyOf (b n f m out) ≡ replyOf (b k g m out)
+
+-- it acknowledges a write and stores nothing
+abbrev pub StoresNothing : Block → Type 0
+StoresNothing b = (n : ℕ) (f m out : List ℕ) → b n f m out .image ≡ m
+
+-- it serves its first frame and then only sends each frame back
+abbrev pub EchoesLater : Block → Type 0
+EchoesLater b = (n : ℕ) (f m out : List ℕ) → replyOf (b (suc n) f m out) ≡ f
