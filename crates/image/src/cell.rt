@@ -1,4 +1,7 @@
 // The cells of the image: where each stands, how long it is, and how a request's numbers name one.
+ghost use mathlib.Core.Path.{_≡_};
+ghost use mathlib.Core.Bool.{cond};
+ghost use Rattle.image.specs.Cell.{at, size, constantsNamed, errorsNamed, isTable, place, tableNamed, partNamed};
 
 // What a command works on: one of the 195 cells, or all eleven parts of a table at once, which only its signature reads. Inside, numbers
 // count from 0: channels 0..7, error tables 0..7, tables 0..15 in image order, parts 0..10.
@@ -16,4 +19,139 @@ pub enum Cell {
 pub enum Named {
     Nothing,
     It(Cell),
+}
+
+impl Cell {
+    // where each kind begins
+    pub const MASK_AT: usize = 6;
+
+    pub const MODE_AT: usize = 7;
+
+    pub const CLOCK_AT: usize = 8;
+
+    pub const WORDS_AT: usize = 17;
+
+    pub const CONSTANTS_AT: usize = 49;
+
+    pub const ERRORS_AT: usize = 713;
+
+    pub const TABLES_AT: usize = 1225;
+
+    // how many bytes one of a kind has
+    pub const BYTE_SIZE: usize = 1;
+
+    pub const CLOCK_SIZE: usize = 9;
+
+    pub const WORD_SIZE: usize = 2;
+
+    pub const CONSTANTS_SIZE: usize = 83;
+
+    pub const ERRORS_SIZE: usize = 64;
+
+    pub const PART_SIZE: usize = 128;
+
+    pub const TABLE_SIZE: usize = 1408;
+
+    pub fn mask() -> Cell
+        ensures { λ r. ⌜ r ≡ Cell.Mask ⌝ }
+    {
+        Cell::Mask
+    }
+
+    pub fn mode() -> Cell
+        ensures { λ r. ⌜ r ≡ Cell.Mode ⌝ }
+    {
+        Cell::Mode
+    }
+
+    pub fn clock() -> Cell
+        ensures { λ r. ⌜ r ≡ Cell.Clock ⌝ }
+    {
+        Cell::Clock
+    }
+
+    pub fn constants(channel: u8) -> Named
+        ensures { λ r. ⌜ r ≡ constantsNamed channel ⌝ }
+    {
+        if channel < 8 {
+            Named::It(Cell::Constants(channel))
+        } else {
+            Named::Nothing
+        }
+    }
+
+    // Error tables are numbered from 1 on the wire.
+    pub fn errors(number: u8) -> Named
+        ensures { λ r. ⌜ r ≡ errorsNamed number ⌝ }
+    {
+        match number {
+            1..=8 => Named::It(Cell::Errors(number - 1)),
+            _ => Named::Nothing,
+        }
+    }
+
+    pub fn table(number: u8) -> Named
+        ensures { λ r. ⌜ r ≡ tableNamed number ⌝ }
+    {
+        let k = place_of(number as u32);
+        if k < 16 {
+            Named::It(Cell::Table(k))
+        } else {
+            Named::Nothing
+        }
+    }
+
+    pub fn part(number: u8, part: u8) -> Named
+        ensures { λ r. ⌜ r ≡ partNamed number part ⌝ }
+    {
+        let k = place_of(number as u32);
+        if 16 <= k {
+            return Named::Nothing;
+        }
+        match part {
+            1..=11 => Named::It(Cell::Part(k, part - 1)),
+            _ => Named::Nothing,
+        }
+    }
+
+    pub fn at(self) -> usize
+        ensures { λ r. ⌜ r ≡ at self ⌝ }
+    {
+        match self {
+            Cell::Mask => Cell::MASK_AT,
+            Cell::Mode => Cell::MODE_AT,
+            Cell::Clock => Cell::CLOCK_AT,
+            Cell::Constants(c) => Cell::CONSTANTS_AT + Cell::CONSTANTS_SIZE * (c as usize),
+            Cell::Errors(e) => Cell::ERRORS_AT + Cell::ERRORS_SIZE * (e as usize),
+            Cell::Part(k, p) => Cell::TABLES_AT
+                + Cell::TABLE_SIZE * (k as usize)
+                + Cell::PART_SIZE * (p as usize),
+            Cell::Table(k) => Cell::TABLES_AT + Cell::TABLE_SIZE * (k as usize),
+        }
+    }
+
+    pub fn size(self) -> usize
+        ensures { λ r. ⌜ r ≡ size self ⌝ }
+    {
+        match self {
+            Cell::Mask => Cell::BYTE_SIZE,
+            Cell::Mode => Cell::BYTE_SIZE,
+            Cell::Clock => Cell::CLOCK_SIZE,
+            Cell::Constants(_) => Cell::CONSTANTS_SIZE,
+            Cell::Errors(_) => Cell::ERRORS_SIZE,
+            Cell::Part(_, _) => Cell::PART_SIZE,
+            Cell::Table(_) => Cell::TABLE_SIZE,
+        }
+    }
+}
+
+// Where a table stands among the sixteen, from 0; 16 for a number that no table has, however large.
+pub fn place_of(number: u32) -> u8
+    ensures { λ r. ⌜ r ≡ cond (isTable number) (place number) 16 ⌝ }
+{
+    match number {
+        1..=8 => (number - 1) as u8,
+        11..=18 => (number - 3) as u8,
+        _ => 16,
+    }
 }

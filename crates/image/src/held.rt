@@ -1,8 +1,61 @@
 // Which parts of a table are held.
+use crate::cell::Cell;
+use crate::cell::place_of;
+use crate::judging::is_usable;
+use crate::word::word_at;
+ghost use mathlib.Core.Path.{_≡_};
+ghost use Prim.Native.Nat.{_<_};
+ghost use Rattle.image.specs.Image.{first};
+ghost use Rattle.image.specs.Held.{heldOf, heldParts, unheld};
 
 // The number; how many parts are held; the lowest missing part, 0 if none is.
 pub struct Held {
     pub number: u8,
     pub parts: u8,
     pub missing: u8,
+}
+
+// A refusal reports two zeros.
+fn refused(n: u8) -> Held
+    ensures { λ r. ⌜ r ≡ unheld n ⌝ }
+{
+    Held {
+        number: n,
+        parts: 0,
+        missing: 0,
+    }
+}
+
+// Part p has bit p - 1, so that past t trailing ones part t + 1 is the first that is missing, unless all eleven are there.
+fn parts_of(w: u16) -> Held
+    requires { ⌜ w < 2048 ⌝ }
+    ensures { λ r. ⌜ r ≡ heldOf w ⌝ }
+{
+    let parts = u16::count_ones(w) as u8;
+    let trailing = u16::trailing_zeros(!w) as u8;
+    if trailing == 11 {
+        return Held {
+            number: 0,
+            parts: parts,
+            missing: 0,
+        };
+    }
+    Held {
+        number: 0,
+        parts: parts,
+        missing: trailing + 1,
+    }
+}
+
+pub fn held_parts(m: &[u8], table: u32) -> Held
+    ensures { λ r. ⌜ r ≡ heldParts first (now (m .entry)) table ⌝ }
+{
+    if !is_usable(m) {
+        return refused(1);
+    }
+    let k = place_of(table);
+    if 16 <= k {
+        return refused(10);
+    }
+    parts_of(word_at(m, Cell::WORDS_AT + Cell::WORD_SIZE * (k as usize)))
 }

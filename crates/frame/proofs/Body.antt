@@ -1,0 +1,57 @@
+-- The lengths of a frame's parts, and the work array that holds its decoded body. Assumes nothing.
+use mathlib.Core.Path.{_≡_, refl, ap, _∙_}
+use mathlib.Core.List.{List, [], _∷_}
+use Prim.Native.Nat.{ℕ, _+_, _-_, _*_, _/_, _≤_}
+use native.Mathlib.Omega.{arith}
+use lib.ListN.{length, getD, take, drop}
+use lib.Dec.{eqb}
+use Rattle.laws.specs.Bytes.{part, lay}
+use Rattle.laws.proofs.Bytes.{length-part, part-is, lay-take, lay-at}
+use Rattle.frame.specs.Digits.{bytesOf, checksumOf}
+use Rattle.frame.specs.Frame.{inner, bodyOf, contentsOf, sumOk}
+
+length-bytes : (s : List ℕ) → length (bytesOf s) ≡ length s / 2
+unfolding bytesOf
+length-bytes [] = refl
+length-bytes (x ∷ []) = refl
+length-bytes (x ∷ (y ∷ s)) = let e = length-bytes s in omega arith
+
+module _ (f : List ℕ) (low : 9 ≤ length f) where
+  pub chars-are : take (length f - 2 - 1) (drop 1 f) ≡ inner f
+  unfolding inner
+  chars-are = part-is 1 (length f - 2) (length f - 3) f (omega arith)
+
+  pub length-inner : length (inner f) ≡ length f - 3
+  unfolding inner
+  length-inner = length-part 1 (length f - 3) f (omega arith)
+
+  pub length-body : length (bodyOf f) ≡ (length f - 3) / 2
+  unfolding bodyOf
+  length-body = length-bytes (inner f) ∙ ap (λ (n : ℕ). n / 2) length-inner
+
+  pub length-contents : length (contentsOf f) ≡ (length f - 3) / 2 - 1
+  unfolding contentsOf
+  length-contents = length-part 0 (length (bodyOf f) - 1) (bodyOf f) (omega arith) ∙ ap (λ (n : ℕ). n - 1) length-body
+
+  module _ (high : length f ≤ 269) (z work : List ℕ) (long : length z ≡ 133) (is : work ≡ lay z 0 (bytesOf (take (length f - 2 - 1) (drop 1 f)))) where
+    is-body : work ≡ lay z 0 (bodyOf f)
+    unfolding bodyOf
+    is-body = is ∙ ap (λ (s : List ℕ). lay z 0 (bytesOf s)) chars-are
+
+    pub work-contents : take ((length f - 3) / 2 - 1) work ≡ contentsOf f
+    unfolding contentsOf part
+    work-contents =
+        let h = length-body in
+        rw (is-body, ← length-body) (lay-take z (bodyOf f) (omega arith) (length (bodyOf f) - 1) (omega arith))
+
+    pub work-length : length (take ((length f - 3) / 2 - 1) work) ≡ (length f - 3) / 2 - 1
+    work-length = ap length work-contents ∙ length-contents
+
+    work-check : getD work ((length f - 3) / 2 - 1) 0 ≡ getD (bodyOf f) (length (bodyOf f) - 1) 0
+    work-check =
+        let h = length-body in
+        rw (is-body, ← length-body) (lay-at z (bodyOf f) (omega arith) (length (bodyOf f) - 1) (omega arith))
+
+    pub work-ok : (sum : ℕ) → sum ≡ checksumOf (take ((length f - 3) / 2 - 1) work) → sumOk f ≡ eqb (getD work ((length f - 3) / 2 - 1) 0) sum
+    unfolding sumOk
+    work-ok sum e = rw (e, work-contents, work-check)

@@ -1,0 +1,4 @@
+pub mod Chars
+pub mod Laid
+pub mod Body
+pub mod Answers

@@ -1,0 +1,185 @@
+use mathlib.Core.Path.{_≡_, refl, sym, ap, _∙_}
+use mathlib.Core.List.{List}
+use mathlib.Core.Bool.{Bool, true, false, cond}
+use Prim.Native.Nat.{ℕ, _-_, _/_, _≤_}
+use native.Mathlib.Omega.{arith}
+use lib.ListN.{length, getD, take}
+use lib.Dec.{eqb}
+use borrow.Author.Tests.{not-true, not-false, eq-eqb, ne-eqb}
+use borrow.Author.Needs.{needs}
+use Rattle.laws.specs.Bytes.{lay}
+use Rattle.frame.specs.Digits.{allDigits, checksumOf}
+use Rattle.frame.specs.Frame.{refuse, written, lengthOk, endsOk, inner, contentsOf, apart}
+use Rattle.frame.proofs.Body.{chars-are, work-contents, work-length, work-ok}
+use Rattle.frame.proofs.Answers.{length-below, length-above, length-even, length-right, length-fails, ends-fail, digits-fail, sum-decides, apart-room, apart-checked, refused, filled}
+use Rattle.frame.proofs.apart.take_apart.Statement.{statement}
+use Rattle.frame.proofs.apart.take_apart.Tie as tie
+
+-- ---- what is known past each test
+
+abbrev frameAt : tie.Else4 → List ℕ
+frameAt c = c .before .before .before .before .before .before .args .frame .now
+
+abbrev outAt : tie.Else4 → List ℕ
+outAt c = c .before .before .before .before .before .before .args .out .now
+
+abbrev room : (c : tie.Else4) → 132 ≤ length (outAt c)
+room c = c .before .before .before .if1 .left
+
+abbrev low : (c : tie.Else4) → 9 ≤ length (frameAt c)
+low c = c .before .before .if2 .left
+
+abbrev high : (c : tie.Else4) → length (frameAt c) ≤ 269
+high c = c .before .if3 .left
+
+right-length : (c : tie.Else4) → lengthOk (length (frameAt c)) ≡ true
+right-length c = length-right _ (low c) (high c) (c .if4 .left)
+
+right-ends : (c : tie.Else5) → endsOk (frameAt (c .before .before)) ≡ true
+right-ends c = sym (c .before .ends-ok .ensures) ∙ not-false _ (c .if5 .left)
+
+abbrev long : tie.Else6 → tie.Else4
+long c = c .before .before .before .before .before
+
+inner-is : (c : tie.After-all-digits) → c .all-digits .result ≡ allDigits (inner (frameAt (c .before .before .before .before)))
+inner-is c = c .all-digits .ensures ∙ ap allDigits (chars-are _ (low (c .before .before .before .before)))
+
+right-digits : (c : tie.Else6) → allDigits (inner (frameAt (long c))) ≡ true
+right-digits c = sym (inner-is (c .before)) ∙ not-false _ (c .if6 .left)
+
+-- the bytes before the checksum, as the code counts them
+abbrev count : tie.After-decode → ℕ
+count d = (length (frameAt (long (d .before))) - 3) / 2 - 1
+
+work-long : (d : tie.After-decode) → length (take (count d) (d .decode .result)) ≡ count d
+work-long d = let l = long (d .before) in work-length (frameAt l) (low l) (high l) _ _ refl (d .decode .ensures)
+
+-- where the checks come to the sum, it decides
+decided : (c : tie.After-checksum) (t : Bool) → eqb (getD (c .before .before .decode .result) (count (c .before .before)) 0) (c .checksum .result) ≡ t
+    → apart (frameAt (long (c .before .before .before))) (outAt (long (c .before .before .before)))
+      ≡ cond t (written (outAt (long (c .before .before .before))) (contentsOf (frameAt (long (c .before .before .before))))) (refuse (outAt (long (c .before .before .before))) 6)
+decided c t e =
+    let d = c .before .before in
+    let l = long (d .before) in
+    apart-checked _ _ (room l)
+    ∙ sum-decides _ _ _ t (right-length l) (right-ends (d .before .before .before .before)) (right-digits (d .before))
+      (work-ok _ (low l) (high l) _ _ refl (d .decode .ensures) _ (c .checksum .ensures) ∙ e)
+
+-- ---- the needs
+
+returns : tie.Need-returns
+returns c = refused _ _ _ 2 (apart-room _ _ (c .if1 .taken)) refl refl
+
+returns-2 : tie.Need-returns-2
+returns-2 c = refused _ _ _ 3 (apart-checked _ _ (c .before .if1 .left) ∙ length-fails _ _ _ (length-below _ (c .if2 .taken))) refl refl
+
+returns-3 : tie.Need-returns-3
+returns-3 c = refused _ _ _ 3 (apart-checked _ _ (c .before .before .if1 .left) ∙ length-fails _ _ _ (length-above _ (c .if3 .taken))) refl refl
+
+returns-4 : tie.Need-returns-4
+returns-4 c = refused _ _ _ 3 (apart-checked _ _ (c .before .before .before .if1 .left) ∙ length-fails _ _ _ (length-even _ (c .if4 .taken))) refl refl
+
+ends-ok-requires : tie.Need-ends-ok-requires
+ends-ok-requires c κs = search needs
+
+returns-5 : tie.Need-returns-5
+returns-5 c =
+    let l = c .before .before in
+    refused _ _ _ 4 (apart-checked _ _ (room l) ∙ ends-fail _ _ _ (right-length l) (sym (c .before .ends-ok .ensures) ∙ not-true _ (c .if5 .taken))) refl refl
+
+sub-chars : tie.Need-sub-chars
+sub-chars c = search needs
+
+sub-chars-2 : tie.Need-sub-chars-2
+sub-chars-2 c = search needs
+
+part-chars-start : tie.Need-part-chars-start
+part-chars-start c = search needs
+
+part-chars-end : tie.Need-part-chars-end
+part-chars-end c = search needs
+
+all-digits-requires : tie.Need-all-digits-requires
+all-digits-requires c κs = search needs
+
+returns-6 : tie.Need-returns-6
+returns-6 c =
+    let e = c .before .before .before in
+    let l = e .before .before in
+    refused _ _ _ 5 (apart-checked _ _ (room l) ∙ digits-fail _ _ _ (right-length l) (right-ends e) (sym (inner-is (c .before)) ∙ not-true _ (c .if6 .taken))) refl refl
+
+decode-requires : tie.Need-decode-requires
+decode-requires c κs = (search needs, sym (c .before .all-digits .ensures) ∙ not-false _ (c .if6 .left))
+
+sub-k : tie.Need-sub-k
+sub-k c = search needs
+
+sub-k-2 : tie.Need-sub-k-2
+sub-k-2 c = search needs
+
+array-share-prefix-work : tie.Need-array-share-prefix-work
+array-share-prefix-work c = search needs
+
+slice-aggregate-checksum : tie.Need-slice-aggregate-checksum
+slice-aggregate-checksum c = sym (work-long (c .before))
+
+checksum-requires : tie.Need-checksum-requires
+checksum-requires c κs = omega (arith, work-long (c .before))
+
+array-read-if7 : tie.Need-array-read-if7
+array-read-if7 c = search needs
+
+returns-7 : tie.Need-returns-7
+returns-7 c = refused _ _ _ 6 (decided (c .before) false (ne-eqb _ _ (c .if7 .taken))) refl refl
+
+array-share-prefix-work-2 : tie.Need-array-share-prefix-work-2
+array-share-prefix-work-2 c = search needs
+
+slice-aggregate-put-all : tie.Need-slice-aggregate-put-all
+slice-aggregate-put-all c = sym (work-long (c .before .before .before .before .before))
+
+put-all-requires : tie.Need-put-all-requires
+put-all-requires c κs = omega (arith, work-long (c .before .before .before .before .before))
+
+same-length : tie.Need-same-length
+same-length c = search needs
+
+returns-8 : tie.Need-returns-8
+returns-8 c =
+    let p = c .before .before in
+    let e = p .before .before .before in
+    let d = e .before .before .before in
+    let l = long (d .before) in
+    let is = work-contents (frameAt l) (low l) (high l) _ _ refl (d .decode .ensures) in
+    let n : p .put-all .result .at ≡ length (contentsOf (frameAt l)) = omega (arith, p .put-all .ensures .0, ap length is) in
+    filled _ _ _ _ _ (decided (e .before) true (eq-eqb _ _ (e .if7 .left))) refl n (p .put-all .ensures .1 ∙ ap (lay (outAt l) 0) is)
+
+pub take-apart-spec : {M : Type 1} → statement M
+take-apart-spec =
+    tie.close
+    (tie.spec
+    returns
+    returns-2
+    returns-3
+    returns-4
+    ends-ok-requires
+    returns-5
+    sub-chars
+    sub-chars-2
+    part-chars-start
+    part-chars-end
+    all-digits-requires
+    returns-6
+    decode-requires
+    sub-k
+    sub-k-2
+    array-share-prefix-work
+    slice-aggregate-checksum
+    checksum-requires
+    array-read-if7
+    returns-7
+    array-share-prefix-work-2
+    slice-aggregate-put-all
+    put-all-requires
+    same-length
+    returns-8)

@@ -1,0 +1,19 @@
+use mathlib.Core.Path.{sym}
+use Rattle.frame.proofs.Chars.{digit-below, digit-decimal, digit-between, digit-letter}
+use Rattle.frame.proofs.digits.is_digit.Statement.{statement}
+use Rattle.frame.proofs.digits.is_digit.Tie as tie
+
+returns : tie.Need-returns
+returns c = sym (digit-below _ (c .if1 .taken))
+
+returns-2 : tie.Need-returns-2
+returns-2 c = sym (digit-decimal _ (c .before .if1 .left) (c .if2 .taken))
+
+returns-3 : tie.Need-returns-3
+returns-3 c = sym (digit-between _ (c .before .if2 .left) (c .if3 .taken))
+
+returns-4 : tie.Need-returns-4
+returns-4 c = sym (digit-letter _ (c .if3 .left))
+
+pub is-digit-spec : {M : Type 1} → statement M
+is-digit-spec = tie.close (tie.spec returns returns-2 returns-3 returns-4)

@@ -1,0 +1,72 @@
+// The write cursor: each method lays bytes at it, and hands back the cursor that stands past them.
+ghost use mathlib.Core.Path.{_≡_};
+ghost use mathlib.Core.List.{[], _∷_};
+ghost use Prim.Native.Nat.{_+_, _*_, _<_, _≤_};
+ghost use lib.ListN.{length};
+ghost use Rattle.laws.specs.Bytes.{lay, zeros};
+ghost use Rattle.frame.specs.Digits.{charsOf};
+use crate::digits::char_of;
+
+// Where the next byte of an output goes.
+pub struct Cursor {
+    pub at: usize,
+}
+
+impl Cursor {
+    pub fn put(self, out: &mut [u8], b: u8) -> Cursor
+        requires { ⌜ self .at < length (now out) ⌝ }
+        ensures { λ r. ⌜ (r .at ≡ self .at + 1) × (now (out .exit) ≡ lay (now (out .entry)) (self .at) (b ∷ [])) ⌝ }
+    {
+        let at = self.at;
+        out[at] = b;
+        Cursor { at: at + 1 }
+    }
+
+    pub fn put_all(self, out: &mut [u8], src: &[u8]) -> Cursor
+        requires { ⌜ self .at + length (now src) ≤ length (now out) ⌝ }
+        ensures { λ r. ⌜ (r .at ≡ self .at + length (now (src .entry))) × (now (out .exit) ≡ lay (now (out .entry)) (self .at) (now (src .entry))) ⌝ }
+    {
+        let mut c = self;
+        let mut i = 0;
+        while i < src.len() {
+            c = c.put(out, src[i]);
+            i += 1;
+        }
+        c
+    }
+
+    pub fn put_zeros(self, out: &mut [u8], n: usize) -> Cursor
+        requires { ⌜ self .at + n ≤ length (now out) ⌝ }
+        ensures { λ r. ⌜ (r .at ≡ self .at + n) × (now (out .exit) ≡ lay (now (out .entry)) (self .at) (zeros n)) ⌝ }
+    {
+        let mut c = self;
+        let mut left = n;
+        while 0 < left {
+            c = c.put(out, 0);
+            left -= 1;
+        }
+        c
+    }
+
+    // Both characters of a byte, high half first.
+    pub(crate) fn put_byte(self, out: &mut [u8], b: u8) -> Cursor
+        requires { ⌜ self .at + 2 ≤ length (now out) ⌝ }
+        ensures { λ r. ⌜ (r .at ≡ self .at + 2) × (now (out .exit) ≡ lay (now (out .entry)) (self .at) (charsOf (b ∷ []))) ⌝ }
+    {
+        let next = self.put(out, char_of(b / 16));
+        next.put(out, char_of(b % 16))
+    }
+
+    pub(crate) fn put_chars(self, out: &mut [u8], src: &[u8]) -> Cursor
+        requires { ⌜ self .at + 2 * length (now src) ≤ length (now out) ⌝ }
+        ensures { λ r. ⌜ (r .at ≡ self .at + 2 * length (now (src .entry))) × (now (out .exit) ≡ lay (now (out .entry)) (self .at) (charsOf (now (src .entry)))) ⌝ }
+    {
+        let mut c = self;
+        let mut i = 0;
+        while i < src.len() {
+            c = c.put_byte(out, src[i]);
+            i += 1;
+        }
+        c
+    }
+}

@@ -1,0 +1,14 @@
+use Rattle.laws.proofs.Bits.{one-shifted}
+use Rattle.image.proofs.Words.{mask-test}
+use borrow.Author.Needs.{needs}
+use Rattle.image.proofs.word.has_bit.Statement.{statement}
+use Rattle.image.proofs.word.has_bit.Tie as tie
+
+shl-result : tie.Need-shl-result
+shl-result c = search needs
+
+returns : tie.Need-returns
+returns c = rw (one-shifted _ (c .pre)) (mask-test (c .args .w) (c .args .k))
+
+pub has-bit-spec : {M : Type 1} → statement M
+has-bit-spec = tie.close (tie.spec shl-result returns)
