@@ -1,1 +1,11 @@
-pub mod Fits
+pub mod Naming
+pub mod Filled
+pub mod Fit
+pub mod Numbers
+pub mod Edges
+pub mod Touches
+pub mod Stores
+pub mod Commute
+pub mod Judging
+pub mod Doing
+pub mod Replying

@@ -1,3 +1,5 @@
 pub mod Rules
 pub mod Act
+pub mod Fits
+pub mod Reply
 pub mod Serve

@@ -1,10 +1,12 @@
 -- Serving: checks 3 to 11 of document 01 ("Refusal numbers"), then the act, its reply and the image after it. Assumes nothing.
 use Prim.Native.Nat.{ℕ, _+_}
+use mathlib.Core.Path.{_≡_}
 use mathlib.Core.List.{List, [], _∷_, _++_}
 use lib.ListN.{length, getD, take}
 use lib.Dec.{eqb}
 use Rattle.laws.specs.Bytes.{lay}
 use Rattle.laws.specs.Checks.{check, judged}
+use Rattle.frame.specs.declared.answer.Answer.{Answer}
 use Rattle.frame.specs.Frame.{frameChecks, contentsOf, frameOf}
 use Rattle.image.specs.declared.cell.Cell.{Cell}
 use Rattle.image.specs.declared.cell.Named.{Named}
@@ -61,6 +63,10 @@ abbrev pub done : Version → Verdict → List ℕ → List ℕ → Outcome
 done v (Refused n) c m = refusal n m
 done v (Accepted e a d) c m = record { number = 0; reply = frameOf (take (2 + e) c ++ says v a d m); image = leaves a d c m }
 
+-- a body, on a usable image
+abbrev pub replied : Version → List ℕ → List ℕ → Outcome
+replied v c m = done v (recognised (getD m 5 0) c) c m
+
 -- a frame, on a usable image
 unfoldable pub answered : Version → List ℕ → List ℕ → Outcome
 answered v f m = done v (heard (getD m 5 0) f) (contentsOf f) m
@@ -76,6 +82,13 @@ pub record After : Type 0 where
 -- the reply stands at the start of the output; the rest is unchanged. Of a refusal that is length 0 and the whole output
 abbrev pub sent : Outcome → List ℕ → After
 sent o out = record { number = o .number; len = length (o .reply); image = o .image; out = lay out 0 (o .reply) }
+
+-- a function that returned r and left an image and an output has done what a says
+pub record Serves (a : After) (r : Answer) (left : List ℕ) (written : List ℕ) : Type 0 where
+  pub number-is : r .number ≡ a .number
+  pub len-is : r .len ≡ a .len
+  pub image-is : left ≡ a .image
+  pub out-is : written ≡ a .out
 
 -- ---- the cells of a frame, by its verdict; a refused one has none
 

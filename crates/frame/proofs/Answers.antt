@@ -1,18 +1,18 @@
 -- What each test says of the answer. Assumes nothing.
-use mathlib.Core.Path.{_≡_, refl, sym, _∙_}
-use mathlib.Core.List.{List, [], _∷_}
-use mathlib.Core.Bool.{Bool, true, false, cond, _&&_, and-false}
+use mathlib.Core.Path.{_≡_}
+use mathlib.Core.List.{List}
+use mathlib.Core.Bool.{Bool, true, false, cond, and-false}
 use Prim.Native.Nat.{ℕ, _+_, _-_, _*_, _%_, _≤_, _<_}
 use native.Mathlib.Omega.{arith}
 use lib.ListN.{length, getD}
-use lib.Dec.{leb, eqb}
+use lib.Dec.{eqb}
 use borrow.Author.Tests.{le-leb, lt-leb, eq-eqb, ne-eqb, eqb-true}
 use Rattle.laws.specs.Bytes.{lay}
 use Rattle.laws.specs.Checks.{judged, within}
 use Rattle.laws.proofs.Tests.{and-both, within-is, within-in, within-below, within-above}
 use Rattle.frame.specs.declared.answer.Answer.{Answer}
-use Rattle.frame.specs.Digits.{allDigits, checksumOf}
-use Rattle.frame.specs.Frame.{After, refuse, written, Does, lengthOk, endsOk, inner, bodyOf, contentsOf, sumOk, frameChecks, apart, frameOf, built}
+use Rattle.frame.specs.Digits.{allDigits}
+use Rattle.frame.specs.Frame.{After, refuse, written, Does, lengthOk, endsOk, inner, contentsOf, sumOk, frameChecks, apart, frameOf, built}
 
 -- ---- the length
 

@@ -54,5 +54,8 @@ pub fn take_apart(frame: &[u8], out: &mut [u8]) -> Answer
     }
     let start = Cursor { at: 0 };
     let end = start.put_all(out, &work[..k]);
-    Answer { number: 0, len: end.at }
+    Answer {
+        number: 0,
+        len: end.at,
+    }
 }

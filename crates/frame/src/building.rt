@@ -25,5 +25,8 @@ pub fn build(contents: &[u8], out: &mut [u8]) -> Answer
     let ends = check.put_byte(out, sum);
     let last = ends.put(out, 13);
     let end = last.put(out, 10);
-    Answer { number: 0, len: end.at }
+    Answer {
+        number: 0,
+        len: end.at,
+    }
 }

@@ -26,13 +26,15 @@ fn refused(n: u8) -> Held
     }
 }
 
-// Part p has bit p - 1, so that past t trailing ones part t + 1 is the first that is missing, unless all eleven are there.
+// Part p has bit p - 1, so that past t trailing ones part t + 1 is the first that is missing, unless all eleven are there. Trailing ones
+// are the trailing zeros of the complement, which the language counts.
 fn parts_of(w: u16) -> Held
     requires { ⌜ w < 2048 ⌝ }
     ensures { λ r. ⌜ r ≡ heldOf w ⌝ }
 {
     let parts = u16::count_ones(w) as u8;
-    let trailing = u16::trailing_zeros(!w) as u8;
+    let rest = !w;
+    let trailing = u16::trailing_zeros(rest) as u8;
     if trailing == 11 {
         return Held {
             number: 0,
@@ -40,10 +42,11 @@ fn parts_of(w: u16) -> Held
             missing: 0,
         };
     }
+    let missing = trailing + 1;
     Held {
         number: 0,
         parts: parts,
-        missing: trailing + 1,
+        missing: missing,
     }
 }
 

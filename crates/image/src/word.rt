@@ -17,7 +17,9 @@ pub fn word_at(m: &[u8], start: usize) -> u16
     requires { ⌜ start + 2 ≤ length (now m) ⌝ }
     ensures { λ r. ⌜ r ≡ pair (now (m .entry)) start ⌝ }
 {
-    256 * wide(m[start]) + wide(m[start + 1])
+    let high = wide(m[start]);
+    let low = wide(m[start + 1]);
+    256 * high + low
 }
 
 pub fn put_word(m: &mut [u8], start: usize, w: u16)

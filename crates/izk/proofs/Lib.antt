@@ -1,2 +1,7 @@
 pub mod Frames
 pub mod Useless
+pub mod Serving
+pub mod Changes
+pub mod ReadBack
+pub mod OneOutcome
+pub mod Taking

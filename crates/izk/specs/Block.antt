@@ -1,12 +1,10 @@
 -- Serving a frame on a lent image with a lent output: the whole of document 01's refusals, in their order, and what is left in both buffers.
 -- Assumes nothing.
 use Prim.Native.Nat.{ℕ}
-use mathlib.Core.Path.{_≡_}
 use mathlib.Core.List.{List, [], _∷_}
 use lib.ListN.{length}
 use lib.Dec.{leb}
 use Rattle.laws.specs.Checks.{check, judged}
-use Rattle.frame.specs.declared.answer.Answer.{Answer}
 use Rattle.image.specs.Image.{Version, usable}
 use Rattle.command.specs.Serve.{After, refusal, sent, answered}
 
@@ -14,10 +12,3 @@ use Rattle.command.specs.Serve.{After, refusal, sent, answered}
 unfoldable pub served : Version → List ℕ → List ℕ → List ℕ → After
 served v f m out =
     judged (λ n. sent (refusal n m) out) (check 1 (usable v m) ∷ (check 2 (leb 269 (length out)) ∷ [])) (sent (answered v f m) out)
-
--- a function that returned r and left an image and an output has done what a says
-pub record Serves (a : After) (r : Answer) (left : List ℕ) (written : List ℕ) : Type 0 where
-  pub number-is : r .number ≡ a .number
-  pub len-is : r .len ≡ a .len
-  pub image-is : left ≡ a .image
-  pub out-is : written ≡ a .out

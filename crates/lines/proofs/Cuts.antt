@@ -9,6 +9,7 @@ use lib.Seq.{drop-drop}
 use lib.Dec.{eqb}
 use borrow.Author.Tests.{eq-eqb, ne-eqb}
 use Rattle.laws.specs.Bytes.{part}
+use Rattle.laws.proofs.Bytes.{length-part}
 use Rattle.laws.proofs.Walks.{next, none-left}
 use Rattle.lines.specs.Lines.{begun, pieces, ends, endFrom}
 
@@ -60,6 +61,10 @@ first-piece (b ∷ s) h = go s (eqb b 10) (λ g. first-piece s g)
 
 -- ---- from an index on
 
+-- the piece that begins there
+abbrev pub pieceAt : ℕ → List ℕ → List ℕ
+pieceAt from s = part from (endFrom from s - from) s
+
 module _ (s : List ℕ) (from : ℕ) where
   pub end-most : endFrom from s ≤ length s
   unfolding endFrom
@@ -69,8 +74,12 @@ module _ (s : List ℕ) (from : ℕ) where
   unfolding endFrom
   end-past h = omega (arith, ends-some (drop from s) (omega (arith, length-drop from s)))
 
+  -- the piece reaches to its end
+  pub piece-reaches : from < length s → from + length (pieceAt from s) ≡ endFrom from s
+  piece-reaches h = omega (arith, end-past h, end-most, length-part from (endFrom from s - from) s (omega (arith, end-past h, end-most)))
+
   -- what is left to be cut is the piece up to its end, and what is left from there on
-  pub pieces-from : from < length s → pieces (drop from s) ≡ part from (endFrom from s - from) s ∷ pieces (drop (endFrom from s) s)
+  pub pieces-from : from < length s → pieces (drop from s) ≡ pieceAt from s ∷ pieces (drop (endFrom from s) s)
   unfolding endFrom part
   pieces-from h =
       let n : min (length s) (from + ends (drop from s)) ≡ from + ends (drop from s) = omega (arith, ends-most (drop from s), length-drop from s) in

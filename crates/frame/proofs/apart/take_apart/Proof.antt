@@ -1,3 +1,4 @@
+-- Taking apart meets its contract: each early return is the refusal of the check it stands for, and past them the work array is the body. Assumes nothing.
 use mathlib.Core.Path.{_≡_, refl, sym, ap, _∙_}
 use mathlib.Core.List.{List}
 use mathlib.Core.Bool.{Bool, true, false, cond}
@@ -8,7 +9,7 @@ use lib.Dec.{eqb}
 use borrow.Author.Tests.{not-true, not-false, eq-eqb, ne-eqb}
 use borrow.Author.Needs.{needs}
 use Rattle.laws.specs.Bytes.{lay}
-use Rattle.frame.specs.Digits.{allDigits, checksumOf}
+use Rattle.frame.specs.Digits.{allDigits}
 use Rattle.frame.specs.Frame.{refuse, written, lengthOk, endsOk, inner, contentsOf, apart}
 use Rattle.frame.proofs.Body.{chars-are, work-contents, work-length, work-ok}
 use Rattle.frame.proofs.Answers.{length-below, length-above, length-even, length-right, length-fails, ends-fail, digits-fail, sum-decides, apart-room, apart-checked, refused, filled}
@@ -57,13 +58,13 @@ work-long d = let l = long (d .before) in work-length (frameAt l) (low l) (high 
 -- where the checks come to the sum, it decides
 decided : (c : tie.After-checksum) (t : Bool) → eqb (getD (c .before .before .decode .result) (count (c .before .before)) 0) (c .checksum .result) ≡ t
     → apart (frameAt (long (c .before .before .before))) (outAt (long (c .before .before .before)))
-      ≡ cond t (written (outAt (long (c .before .before .before))) (contentsOf (frameAt (long (c .before .before .before))))) (refuse (outAt (long (c .before .before .before))) 6)
+    ≡ cond t (written (outAt (long (c .before .before .before))) (contentsOf (frameAt (long (c .before .before .before))))) (refuse (outAt (long (c .before .before .before))) 6)
 decided c t e =
     let d = c .before .before in
     let l = long (d .before) in
     apart-checked _ _ (room l)
     ∙ sum-decides _ _ _ t (right-length l) (right-ends (d .before .before .before .before)) (right-digits (d .before))
-      (work-ok _ (low l) (high l) _ _ refl (d .decode .ensures) _ (c .checksum .ensures) ∙ e)
+    (work-ok _ (low l) (high l) _ _ refl (d .decode .ensures) _ (c .checksum .ensures) ∙ e)
 
 -- ---- the needs
 
@@ -80,7 +81,7 @@ returns-4 : tie.Need-returns-4
 returns-4 c = refused _ _ _ 3 (apart-checked _ _ (c .before .before .before .if1 .left) ∙ length-fails _ _ _ (length-even _ (c .if4 .taken))) refl refl
 
 ends-ok-requires : tie.Need-ends-ok-requires
-ends-ok-requires c κs = search needs
+ends-ok-requires c κs = omega arith
 
 returns-5 : tie.Need-returns-5
 returns-5 c =
@@ -88,16 +89,16 @@ returns-5 c =
     refused _ _ _ 4 (apart-checked _ _ (room l) ∙ ends-fail _ _ _ (right-length l) (sym (c .before .ends-ok .ensures) ∙ not-true _ (c .if5 .taken))) refl refl
 
 sub-chars : tie.Need-sub-chars
-sub-chars c = search needs
+sub-chars c = omega arith
 
 sub-chars-2 : tie.Need-sub-chars-2
-sub-chars-2 c = search needs
+sub-chars-2 c = omega arith
 
 part-chars-start : tie.Need-part-chars-start
-part-chars-start c = search needs
+part-chars-start c = omega arith
 
 part-chars-end : tie.Need-part-chars-end
-part-chars-end c = search needs
+part-chars-end c = omega arith
 
 all-digits-requires : tie.Need-all-digits-requires
 all-digits-requires c κs = search needs
@@ -109,16 +110,16 @@ returns-6 c =
     refused _ _ _ 5 (apart-checked _ _ (room l) ∙ digits-fail _ _ _ (right-length l) (right-ends e) (sym (inner-is (c .before)) ∙ not-true _ (c .if6 .taken))) refl refl
 
 decode-requires : tie.Need-decode-requires
-decode-requires c κs = (search needs, sym (c .before .all-digits .ensures) ∙ not-false _ (c .if6 .left))
+decode-requires c κs = (omega arith, sym (c .before .all-digits .ensures) ∙ not-false _ (c .if6 .left))
 
 sub-k : tie.Need-sub-k
-sub-k c = search needs
+sub-k c = omega arith
 
 sub-k-2 : tie.Need-sub-k-2
-sub-k-2 c = search needs
+sub-k-2 c = omega arith
 
 array-share-prefix-work : tie.Need-array-share-prefix-work
-array-share-prefix-work c = search needs
+array-share-prefix-work c = omega arith
 
 slice-aggregate-checksum : tie.Need-slice-aggregate-checksum
 slice-aggregate-checksum c = sym (work-long (c .before))
@@ -127,13 +128,13 @@ checksum-requires : tie.Need-checksum-requires
 checksum-requires c κs = omega (arith, work-long (c .before))
 
 array-read-if7 : tie.Need-array-read-if7
-array-read-if7 c = search needs
+array-read-if7 c = omega arith
 
 returns-7 : tie.Need-returns-7
 returns-7 c = refused _ _ _ 6 (decided (c .before) false (ne-eqb _ _ (c .if7 .taken))) refl refl
 
 array-share-prefix-work-2 : tie.Need-array-share-prefix-work-2
-array-share-prefix-work-2 c = search needs
+array-share-prefix-work-2 c = omega arith
 
 slice-aggregate-put-all : tie.Need-slice-aggregate-put-all
 slice-aggregate-put-all c = sym (work-long (c .before .before .before .before .before))
@@ -142,7 +143,7 @@ put-all-requires : tie.Need-put-all-requires
 put-all-requires c κs = omega (arith, work-long (c .before .before .before .before .before))
 
 same-length : tie.Need-same-length
-same-length c = search needs
+same-length c = omega arith
 
 returns-8 : tie.Need-returns-8
 returns-8 c =

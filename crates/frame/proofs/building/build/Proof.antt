@@ -1,5 +1,6 @@
+-- Building meets its contract: the five steps of the cursor lay the frame. Assumes nothing.
 use mathlib.Core.Path.{refl}
-use borrow.Author.Needs.{needs}
+use native.Mathlib.Omega.{arith}
 use Rattle.laws.proofs.Tests.{within-below, within-above}
 use Rattle.frame.proofs.Laid.{frame-laid, frame-end}
 use Rattle.frame.proofs.Answers.{built-length, built-room, built-done, refused, filled}
@@ -13,34 +14,34 @@ returns-2 : tie.Need-returns-2
 returns-2 c = refused _ _ _ 3 (built-length _ _ (within-above _ _ _ (c .if2 .taken))) refl refl
 
 mul-if3 : tie.Need-mul-if3
-mul-if3 c = search needs
+mul-if3 c = omega arith
 
 add-if3 : tie.Need-add-if3
-add-if3 c = search needs
+add-if3 c = omega arith
 
 returns-3 : tie.Need-returns-3
 returns-3 c = refused _ _ _ 2 (built-room _ _ (c .before .before .if1 .left) (c .before .if2 .left) (c .if3 .taken)) refl refl
 
 checksum-requires : tie.Need-checksum-requires
-checksum-requires c κs = search needs
+checksum-requires c κs = omega arith
 
 put-requires : tie.Need-put-requires
-put-requires c κs = search needs
+put-requires c κs = omega arith
 
 put-chars-requires : tie.Need-put-chars-requires
-put-chars-requires c κs = search needs
+put-chars-requires c κs = omega arith
 
 put-byte-requires : tie.Need-put-byte-requires
-put-byte-requires c κs = search needs
+put-byte-requires c κs = omega arith
 
 put-requires-2 : tie.Need-put-requires-2
-put-requires-2 c κs = search needs
+put-requires-2 c κs = omega arith
 
 put-requires-3 : tie.Need-put-requires-3
-put-requires-3 c κs = search needs
+put-requires-3 c κs = omega arith
 
 same-length : tie.Need-same-length
-same-length c = search needs
+same-length c = omega arith
 
 returns-4 : tie.Need-returns-4
 returns-4 c =

@@ -1,7 +1,7 @@
 use mathlib.Core.Path.{_≡_, sym}
 use mathlib.Core.Logic.{_⊎_, inl, inr}
 use mathlib.Core.Bool.{true}
-use Prim.Native.Nat.{ℕ, _≤_, _<_}
+use Prim.Native.Nat.{ℕ, _≤_}
 use native.Mathlib.Omega.{arith}
 use borrow.Author.Needs.{needs}
 use Rattle.frame.specs.Digits.{isDigit}
@@ -9,7 +9,7 @@ use Rattle.frame.proofs.Chars.{digit-is, value-low, value-high}
 use Rattle.frame.proofs.digits.value.Statement.{statement}
 use Rattle.frame.proofs.digits.value.Tie as tie
 
--- on each side of 58 there is one kind of digit
+-- the digits' least and greatest
 bounds : (c : ℕ) → isDigit c ≡ true → (48 ≤ c) × (c ≤ 70)
 bounds c d = go (digit-is c d)
   where

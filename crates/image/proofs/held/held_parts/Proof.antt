@@ -52,7 +52,10 @@ parts-of-requires c κs = omega (arith, facts first _ (good (c .before .before))
 
 returns-3 : tie.Need-returns-3
 unfolding heldParts judged word
-returns-3 c = let d = c .before .before .before in let p = placed-at _ _ (d .place-of .ensures) (omega arith) in rw (good d, p .0, ← p .1, ← c .before .word-at .ensures) (c .parts-of .ensures)
+returns-3 c =
+    let d = c .before .before .before in
+    let p = placed-at _ _ (d .place-of .ensures) (omega arith) in
+    rw (good d, p .0, ← p .1, ← c .before .word-at .ensures) (c .parts-of .ensures)
 
 pub held-parts-spec : {M : Type 1} → statement M
 held-parts-spec =

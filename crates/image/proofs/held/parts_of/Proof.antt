@@ -17,12 +17,12 @@ returns : tie.Need-returns
 unfolding heldOf
 returns c = rw (ones-are 11 (c .before .args .w) (c .before .pre), none-missing (c .before .args .w) _ (c .before .pre) (trailing-ones 16 (c .before .args .w) (omega arith)) (c .if1 .taken))
 
-add-t7 : tie.Need-add-t7
-add-t7 c = omega (arith, trailing-le 16 (65535 - c .before .args .w))
+add-missing : tie.Need-add-missing
+add-missing c = omega (arith, trailing-le 16 (65535 - c .before .args .w))
 
 returns-2 : tie.Need-returns-2
 unfolding heldOf
 returns-2 c = rw (ones-are 11 (c .before .args .w) (c .before .pre), one-missing (c .before .args .w) _ (c .before .pre) (trailing-ones 16 (c .before .args .w) (omega arith)) (c .if1 .left))
 
 pub parts-of-spec : {M : Type 1} → statement M
-parts-of-spec = tie.close (tie.spec cast-parts cast-trailing returns add-t7 returns-2)
+parts-of-spec = tie.close (tie.spec cast-parts cast-trailing returns add-missing returns-2)

@@ -45,7 +45,12 @@ shared-slice-read-result c = search needs
 
 returns-6 : tie.Need-returns-6
 unfolding headOk
-returns-6 c = let g = c .before in let f = g .before .before in let e = f .before .before in let d = e .before .before in rw (d .before .before .if1 .left, d .if2 .left, e .if3 .left, f .if4 .left, g .if5 .left)
+returns-6 c =
+    let g = c .before in
+    let f = g .before .before in
+    let e = f .before .before in
+    let d = e .before .before in
+    rw (d .before .before .if1 .left, d .if2 .left, e .if3 .left, f .if4 .left, g .if5 .left)
 
 pub head-ok-spec : {M : Type 1} → statement M
 head-ok-spec =

@@ -29,7 +29,11 @@ words-ok-requires c κs = search needs
 
 returns-4 : tie.Need-returns-4
 unfolding usable
-returns-4 c = let u = c .before in let t = u .before .before in rw (t .before .before .if1 .left, sym (t .before .head-ok .ensures) ∙ not-false _ (t .if2 .left), sym (u .before .counts-ok .ensures) ∙ not-false _ (u .if3 .left)) (c .words-ok .ensures)
+returns-4 c =
+    let u = c .before in
+    let t = u .before .before in
+    rw (t .before .before .if1 .left, sym (t .before .head-ok .ensures) ∙ not-false _ (t .if2 .left), sym (u .before .counts-ok .ensures) ∙ not-false _ (u .if3 .left))
+    (c .words-ok .ensures)
 
 pub is-usable-spec : {M : Type 1} → statement M
 is-usable-spec =

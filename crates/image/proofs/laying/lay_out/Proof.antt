@@ -43,7 +43,11 @@ same-length c = search needs
 
 returns-3 : tie.Need-returns-3
 unfolding laidOut judged
-returns-3 c = let t = c .before .before .before .before in rw (eq-eqb _ _ (t .before .if1 .left), ne-eqb _ _ (t .if2 .left)) (record { number-is = refl; image-is = fresh-is _ (t .before .before .before .args .m .now) _ (t .before .if1 .left) (c .before .before .clear .ensures) })
+returns-3 c =
+    let t = c .before .before .before .before in
+    let m = t .before .before .before .args .m .now in
+    rw (eq-eqb _ _ (t .before .if1 .left), ne-eqb _ _ (t .if2 .left))
+    (record { number-is = refl; image-is = fresh-is _ m _ (t .before .if1 .left) (c .before .before .clear .ensures) })
 
 pub lay-out-spec : {M : Type 1} → statement M
 lay-out-spec =

@@ -33,13 +33,18 @@ loop-less : tie.Need-loop-less Inv-loop μ-loop
 loop-less c = omega arith
 
 loop-again : tie.Need-loop-again Inv-loop μ-loop
-loop-again c = (omega arith, omega (arith, c .shared-slice-known .given (c .before .before .loop .i)), omega (arith, sum-next (c .before .before .before .args .item .now) (c .before .before .loop .i) (c .before .loop-test .taken)))
+loop-again c =
+    let t = c .before .before in
+    (omega arith, omega (arith, c .shared-slice-known .given (t .loop .i)), omega (arith, sum-next (t .before .args .item .now) (t .loop .i) (c .before .loop-test .taken)))
 
 cast-result : tie.Need-cast-result Inv-loop μ-loop
 cast-result c = omega arith
 
 returns : tie.Need-returns Inv-loop μ-loop
-returns c = let e : c .before .loop .total ≡ sumOf (c .before .before .args .item .now) = omega (arith, sum-done (c .before .before .args .item .now) (c .before .loop .i) (c .loop-test .left)) in rw e
+returns c =
+    let s = c .before .before .args .item .now in
+    let e : c .before .loop .total ≡ sumOf s = omega (arith, sum-done s (c .before .loop .i) (c .loop-test .left)) in
+    rw e
 
 pub sum-spec : {M : Type 1} → statement M
 sum-spec =

@@ -10,9 +10,6 @@ shared-slice-read-wide c = search needs
 wide-requires : tie.Need-wide-requires
 wide-requires c κs = search needs
 
-mul-result : tie.Need-mul-result
-mul-result c = search needs
-
 add-wide : tie.Need-add-wide
 add-wide c = search needs
 
@@ -21,6 +18,9 @@ shared-slice-read-wide-2 c = search needs
 
 wide-requires-2 : tie.Need-wide-requires-2
 wide-requires-2 c κs = search needs
+
+mul-result : tie.Need-mul-result
+mul-result c = search needs
 
 add-result : tie.Need-add-result
 add-result c = search needs
@@ -35,9 +35,9 @@ word-at-spec =
     (tie.spec
     shared-slice-read-wide
     wide-requires
-    mul-result
     add-wide
     shared-slice-read-wide-2
     wide-requires-2
+    mul-result
     add-result
     returns)

@@ -16,7 +16,10 @@ returns c = rw (not-placed _ _ (c .before .place-of .ensures) (c .if1 .taken))
 
 returns-2 : tie.Need-returns-2
 unfolding partNamed when
-returns-2 c = let p = placed-at _ _ (c .before .before .before .place-of .ensures) (c .before .before .if1 .left) in rw (p .0, ← p .1, within-in 1 11 _ (c .before .if2 .left) (omega arith))
+returns-2 c =
+    let d = c .before .before in
+    let p = placed-at _ _ (d .before .place-of .ensures) (d .if1 .left) in
+    rw (p .0, ← p .1, within-in 1 11 _ (c .before .if2 .left) (omega arith))
 
 returns-3 : tie.Need-returns-3
 unfolding partNamed when

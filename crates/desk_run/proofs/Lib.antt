@@ -1,0 +1,4 @@
+pub mod Pieces
+pub mod Ran
+pub mod Portions
+pub mod Example

@@ -1,0 +1,6 @@
+// Serving the pieces of an input in turn, into a text that is handed out in portions: what the desk program does between reading and writing.
+mod piece;
+mod turns;
+
+pub use turns::Progress;
+pub use turns::run;

@@ -1,0 +1,19 @@
+// One piece: served, and its line laid into the text.
+ghost use mathlib.Core.Path.{_≡_};
+ghost use Prim.Native.Nat.{_+_, _≤_};
+ghost use lib.ListN.{length};
+ghost use Rattle.image.specs.Image.{first};
+ghost use Rattle.lines.specs.Lines.{Laid};
+ghost use Rattle.desk_run.specs.Desk.{printed, left};
+use frame::Cursor;
+
+pub(crate) fn put_piece(start: Cursor, text: &mut [u8], m: &mut [u8], piece: &[u8]) -> Cursor
+    requires { ⌜ start .at + 300 ≤ length (now text) ⌝ }
+    ensures { λ r. ⌜ Laid (start .at) (r .at) (now (text .entry)) (now (text .exit)) (printed first (now (m .entry)) (now (piece .entry)))
+        × (now (m .exit) ≡ left first (now (m .entry)) (now (piece .entry))) ⌝ }
+{
+    let mut reply = [0u8; 269];
+    let answer = izk::serve(piece, m, &mut reply);
+    let n = answer.len;
+    lines::put_line(start, text, answer.number, &reply[..n])
+}

@@ -1,0 +1,89 @@
+-- Frames that pass checks 3 to 6, and those that do not: what a caller of taking apart has in hand. Assumes nothing.
+use mathlib.Core.Path.{_≡_, refl, sym, _∙_}
+use mathlib.Core.List.{List, [], _∷_}
+use mathlib.Core.Bool.{Bool, true, false, cond}
+use Prim.Native.Nat.{ℕ, _%_, _≤_}
+use native.Mathlib.Omega.{arith}
+use lib.ListN.{length}
+use lib.Dec.{leb, ltb}
+use borrow.Author.Tests.{leb-true, ltb-true}
+use Rattle.laws.specs.Checks.{Check, check, judged, firstFailing, risingFrom}
+use Rattle.laws.proofs.Tests.{and-both}
+use Rattle.laws.proofs.Checks as Checks
+use Rattle.laws.proofs.Checks.{AllPass, Judged, judge, judged-map, judged-passed}
+use Rattle.frame.specs.Digits.{allDigits}
+use Rattle.frame.specs.Frame.{After, refuse, written, endsOk, inner, contentsOf, sumOk, frameChecks, apart}
+use Rattle.frame.proofs.Body.{length-contents}
+use Rattle.frame.proofs.Answers.{length-is, apart-checked}
+
+-- numbers that rise are never 0: where the first that fails has number 0, none does
+none-fails : (k : ℕ) (cs : List Check) → risingFrom k cs ≡ true → firstFailing cs ≡ 0 → AllPass cs
+unfolding firstFailing judged risingFrom
+none-fails k [] r z = tt
+none-fails k (c ∷ cs) r z = go (c .passes) refl (and-both (ltb k (c .number)) (risingFrom (c .number) cs) r) z (λ s e. none-fails (c .number) cs s e)
+  where
+    go : (t : Bool) → c .passes ≡ t → (ltb k (c .number) ≡ true) × (risingFrom (c .number) cs ≡ true) → cond t (judged (λ n. n) cs 0) (c .number) ≡ 0
+        → (risingFrom (c .number) cs ≡ true → judged (λ n. n) cs 0 ≡ 0 → AllPass cs) → (c .passes ≡ true) × AllPass cs
+    go true e p z ih = (e, ih (p .1) z)
+    go false e p z ih = let l = ltb-true k (c .number) (p .0) in absurd (let n : c .number ≡ 0 = z in omega arith)
+
+module _ (f : List ℕ) where
+  rising : risingFrom 2 (frameChecks f) ≡ true
+  unfolding risingFrom frameChecks
+  rising = refl
+
+  -- ---- the checks pass
+
+  module _ (p : AllPass (frameChecks f)) where
+    pub passed-length : (9 ≤ length f) × (length f ≤ 269) × (length f % 2 ≡ 1)
+    unfolding frameChecks
+    passed-length = length-is (length f) (p .0)
+
+    pub passed-ends : endsOk f ≡ true
+    unfolding frameChecks
+    passed-ends = p .1 .0
+
+    pub passed-digits : allDigits (inner f) ≡ true
+    unfolding frameChecks
+    passed-digits = p .1 .1 .0
+
+    pub passed-sum : sumOk f ≡ true
+    unfolding frameChecks
+    passed-sum = p .1 .1 .1 .0
+
+    pub contents-length : (2 ≤ length (contentsOf f)) × (length (contentsOf f) ≤ 132)
+    contents-length =
+        let l = passed-length in
+        let n = length-contents f (l .0) in
+        (omega arith, omega arith)
+
+pub apart-passed : (f out : List ℕ) → 132 ≤ length out → AllPass (frameChecks f) → apart f out ≡ written out (contentsOf f)
+apart-passed f out room p = apart-checked f out room ∙ judged-passed (refuse out) (frameChecks f) (written out (contentsOf f)) p
+
+-- ---- taking apart, with room for the contents: they are written, or one number is the answer of every reading of the checks
+
+pub data Taken (f out : List ℕ) : Type 1 where
+  passed : AllPass (frameChecks f) → apart f out ≡ written out (contentsOf f) → Taken f out
+  failed : (n : ℕ) → (n ≡ 0 → ⊥) → firstFailing (frameChecks f) ≡ n → apart f out ≡ refuse out n
+      → ((A : Type 0) (no : ℕ → A) (after : A) → judged no (frameChecks f) after ≡ no n) → Taken f out
+
+pub taken : (f out : List ℕ) → 132 ≤ length out → Taken f out
+taken f out room = go (judge (frameChecks f))
+  where
+    go : Judged (frameChecks f) → Taken f out
+    go (Checks.passed p) = passed p (apart-passed f out room p)
+    go (Checks.failed n e h) = failed n some e (apart-checked f out room ∙ h _ (refuse out) (written out (contentsOf f))) h
+      where
+        some : n ≡ 0 → ⊥
+        some z =
+            let p = none-fails 2 (frameChecks f) (rising f) (e ∙ z) in
+            let a = sym (judged-passed (λ m. 1) (frameChecks f) 0 p) ∙ h ℕ (λ m. 1) 0 in
+            omega arith
+
+-- an answer of number 0 says that all checks passed, room for the contents among them
+pub taken-0 : (f out : List ℕ) → apart f out .number ≡ 0 → (132 ≤ length out) × AllPass (frameChecks f)
+unfolding apart firstFailing risingFrom
+taken-0 f out z =
+    let cs : List Check = check 2 (leb 132 (length out)) ∷ frameChecks f in
+    let p : AllPass cs = none-fails 1 cs (rising f) (sym (judged-map (λ (a : After). a .number) (refuse out) cs (written out (contentsOf f))) ∙ z) in
+    (leb-true 132 (length out) (p .0), p .1)

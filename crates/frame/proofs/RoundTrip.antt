@@ -1,0 +1,140 @@
+-- Building and taking apart undo each other. Assumes nothing.
+use mathlib.Core.Path.{_≡_, refl, sym, ap, _∙_}
+use mathlib.Core.List.{List, [], _∷_, _++_}
+use mathlib.Core.Bool.{true}
+use Prim.Native.Nat.{ℕ, zero, suc, _+_, _-_, _*_, _≤_, _<_}
+use native.Mathlib.Omega.{arith}
+use lib.ListN.{length, getD, take, drop, length-append, take-append-drop}
+use lib.Seq.{take-at, getD-at, getD-append-add, take-suc, take-all, take-add, drop-length}
+use borrow.Author.Tests.{eq-eqb, eqb-true}
+use Rattle.laws.specs.Bytes.{part}
+use Rattle.laws.proofs.Checks.{AllPass}
+use Rattle.laws.proofs.Walks.{next2}
+use Rattle.frame.specs.Digits.{allDigits, charsOf, checksumOf}
+use Rattle.frame.specs.Frame.{written, lengthOk, endsOk, inner, bodyOf, contentsOf, sumOk, frameChecks, apart, frameOf, built}
+use Rattle.frame.proofs.Laid.{length-chars, length-frame}
+use Rattle.frame.proofs.Body.{length-inner, length-body}
+use Rattle.frame.proofs.Answers.{length-right, ends-are, ends-third, built-done}
+use Rattle.frame.proofs.Coding.{Bytes, digits-chars, bytes-chars, chars-bytes}
+use Rattle.frame.proofs.Passing.{apart-passed, passed-length, passed-ends, passed-digits, passed-sum, contents-length, taken-0}
+
+-- ---- a built frame is taken apart
+
+-- the body: the contents, and their checksum
+unfoldable body : List ℕ → List ℕ
+body c = c ++ (checksumOf c ∷ [])
+
+length-whole : (c : List ℕ) → length (body c) ≡ length c + 1
+unfolding body
+length-whole c = length-append c (checksumOf c ∷ [])
+
+bytes-whole : (c : List ℕ) (b : ℕ) → b < 256 → Bytes c → Bytes (c ++ (b ∷ []))
+bytes-whole [] b s h zero = s
+bytes-whole [] b s h (suc k) = h zero
+bytes-whole (x ∷ c) b s h zero = h zero
+bytes-whole (x ∷ c) b s h (suc k) = bytes-whole c b s (λ j. h (suc j)) k
+
+module _ (c : List ℕ) where
+  inner-frame : inner (frameOf c) ≡ charsOf (body c)
+  unfolding inner part frameOf body
+  inner-frame =
+      let e : length (frameOf c) - 3 ≡ length (charsOf (body c)) = omega (arith, length-frame c, length-chars (body c), length-whole c) in
+      rw e (take-at (charsOf (body c)) (13 ∷ (10 ∷ [])) _ refl)
+
+  ends-frame : endsOk (frameOf c) ≡ true
+  unfolding frameOf body
+  ends-frame =
+      let n = charsOf (body c) in
+      let e : length (frameOf c) ≡ length n + 3 = omega (arith, length-frame c, length-chars (body c), length-whole c) in
+      let i : length (frameOf c) - 2 ≡ suc (length n) = omega arith in
+      let j : length (frameOf c) - 1 ≡ suc (length n + 1) = omega arith in
+      let a : getD (frameOf c) (length (frameOf c) - 2) 0 ≡ 13 = rw i (getD-at n 13 (10 ∷ []) 0 (length n) refl) in
+      let b : getD (frameOf c) (length (frameOf c) - 1) 0 ≡ 10 = rw j (getD-append-add n (13 ∷ (10 ∷ [])) 1 0) in
+      ends-third (frameOf c) refl a ∙ eq-eqb _ 10 b
+
+  module _ (bytes : Bytes c) where
+    whole : Bytes (body c)
+    unfolding body checksumOf
+    whole = bytes-whole c (checksumOf c) (omega arith) bytes
+
+    body-frame : bodyOf (frameOf c) ≡ body c
+    unfolding bodyOf
+    body-frame = rw inner-frame (bytes-chars (body c) whole)
+
+    pub contents-frame : contentsOf (frameOf c) ≡ c
+    unfolding contentsOf part body
+    contents-frame =
+        let e : length (body c) - 1 ≡ length c = omega (arith, length-whole c) in
+        rw (body-frame, e) (take-at c (checksumOf c ∷ []) (length c) refl)
+
+    sum-frame : sumOk (frameOf c) ≡ true
+    unfolding sumOk body
+    sum-frame =
+        let e : length (body c) - 1 ≡ length c = omega (arith, length-whole c) in
+        rw (body-frame, contents-frame, e) (eq-eqb _ _ (getD-at c (checksumOf c) [] 0 (length c) refl))
+
+    module _ (low : 2 ≤ length c) (high : length c ≤ 132) where
+      pub frame-passes : AllPass (frameChecks (frameOf c))
+      unfolding frameChecks
+      frame-passes =
+          let n = length-frame c in
+          let l : lengthOk (length (frameOf c)) ≡ true = length-right _ (omega arith) (omega arith) (λ e. omega arith) in
+          let d : allDigits (inner (frameOf c)) ≡ true = ap allDigits inner-frame ∙ digits-chars (body c) whole in
+          (l, (ends-frame, (d, (sum-frame, tt))))
+
+      pub built-then-apart : (out : List ℕ) → 132 ≤ length out → apart (frameOf c) out ≡ written out c
+      built-then-apart out room = apart-passed (frameOf c) out room frame-passes ∙ ap (written out) contents-frame
+
+-- ---- a frame that is taken apart is built again
+
+-- a list is all but its last, and its last
+last-split : (l : List ℕ) (n : ℕ) → length l ≡ n + 1 → take n l ++ (getD l n 0 ∷ []) ≡ l
+last-split l n e = sym (take-suc l n 0 (omega arith)) ∙ take-all (suc n) l (omega arith)
+
+module _ (f : List ℕ) (p : AllPass (frameChecks f)) where
+  tail-is : drop (length f - 2) f ≡ 13 ∷ (10 ∷ [])
+  tail-is =
+      let l = passed-length f p in
+      let e = ends-are f (passed-ends f p) in
+      let i : length f - 2 + 1 ≡ length f - 1 = omega arith in
+      let j : length f - 2 + 2 ≡ length f = omega arith in
+      let h : length f - 2 + 1 < length f = omega arith in
+      next2 f (length f - 2) h ∙ rw (i, j, e .1, e .2, drop-length f)
+
+  head-is : take (length f - 2) f ≡ 58 ∷ inner f
+  unfolding inner part
+  head-is =
+      let l = passed-length f p in
+      let e : length f - 2 ≡ 1 + (length f - 3) = omega arith in
+      let h : 0 < length f = omega arith in
+      rw (e, take-add 1 (length f - 3) f, take-suc f 0 0 h, ends-are f (passed-ends f p) .0)
+
+  frame-is : f ≡ 58 ∷ (inner f ++ (13 ∷ (10 ∷ [])))
+  frame-is = sym (take-append-drop (length f - 2) f) ∙ rw (head-is, tail-is)
+
+  body-is : contentsOf f ++ (checksumOf (contentsOf f) ∷ []) ≡ bodyOf f
+  unfolding sumOk contentsOf part
+  body-is =
+      let l = passed-length f p in
+      let m : length (bodyOf f) ≡ length (bodyOf f) - 1 + 1 = omega (arith, length-body f (l .0)) in
+      let k : getD (bodyOf f) (length (bodyOf f) - 1) 0 ≡ checksumOf (contentsOf f) = eqb-true _ _ (passed-sum f p) in
+      rw (← k) (last-split (bodyOf f) (length (bodyOf f) - 1) m)
+
+  pub frame-back : frameOf (contentsOf f) ≡ f
+  unfolding frameOf bodyOf
+  frame-back =
+      let l = passed-length f p in
+      rw (body-is, chars-bytes (inner f) (passed-digits f p) (omega (arith, length-inner f (l .0)))) (sym frame-is)
+
+pub apart-then-built : (f out : List ℕ) → apart f out .number ≡ 0 → (frameOf (contentsOf f) ≡ f) × (2 ≤ length (contentsOf f)) × (length (contentsOf f) ≤ 132)
+apart-then-built f out z =
+    let p = taken-0 f out z .1 in
+    let n = contents-length f p in
+    (frame-back f p, n .0, n .1)
+
+-- so, with room for it, building what was taken apart writes the same frame
+pub apart-then-written : (f out left : List ℕ) → apart f out .number ≡ 0 → length f ≤ length left → built (contentsOf f) left ≡ written left f
+apart-then-written f out left z room =
+    let e = apart-then-built f out z in
+    let n : 2 * length (contentsOf f) + 5 ≤ length left = omega (arith, length-frame (contentsOf f), ap length (e .0)) in
+    built-done (contentsOf f) left (e .1) (e .2) n ∙ ap (written left) (e .0)

@@ -1,0 +1,93 @@
+-- `izk::serve` meets its contract: each early return is the check that the definition has there, and what the contents are answered is what is
+-- served. Assumes nothing.
+use mathlib.Core.Path.{_≡_, sym, _∙_}
+use mathlib.Core.Bool.{true}
+use borrow.Author.Needs.{needs}
+use borrow.Author.Tests.{not-true, not-false}
+use lib.Dec.{lit≤}
+use lib.Seq.{length-take-le}
+use Rattle.image.specs.Image.{first, usable}
+use Rattle.izk.proofs.Serving.{unusable-is-1, no-room-is-2}
+use Rattle.izk.proofs.Taking.{opened, refused-serves, taken-refuses, contents-short, answered-serves}
+use Rattle.izk.proofs.serve.Statement.{statement}
+use Rattle.izk.proofs.serve.Tie as tie
+
+is-usable-requires : tie.Need-is-usable-requires
+is-usable-requires c κs = search needs
+
+same-length : tie.Need-same-length
+same-length c = search needs
+
+returns : tie.Need-returns
+returns c = refused-serves _ _ _ 1 (unusable-is-1 first _ _ _ (sym (c .before .is-usable .ensures) ∙ not-true _ (c .if1 .taken)))
+
+same-length-2 : tie.Need-same-length-2
+same-length-2 c = search needs
+
+returns-2 : tie.Need-returns-2
+returns-2 c = refused-serves _ _ _ 2 (no-room-is-2 first _ _ _ (sym (c .before .before .is-usable .ensures) ∙ not-false _ (c .before .if1 .left)) (c .if2 .taken))
+
+slice-aggregate-take-apart : tie.Need-slice-aggregate-take-apart
+slice-aggregate-take-apart c = search needs
+
+take-apart-requires : tie.Need-take-apart-requires
+take-apart-requires c κs = search needs
+
+same-length-3 : tie.Need-same-length-3
+same-length-3 c = search needs
+
+is-usable : (c : tie.Else2) → usable first (c .before .before .before .before .before .before .before .args .m .now) ≡ true
+is-usable c = sym (c .before .before .is-usable .ensures) ∙ not-false _ (c .before .if1 .left)
+
+returns-3 : tie.Need-returns-3
+returns-3 c =
+    let t = c .before .before in
+    let e = t .before .before in
+    refused-serves _ _ _ _ (taken-refuses _ _ _ _ (lit≤ tt) (t .take-apart .ensures) _ _ (c .if3 .taken) (is-usable e) (e .if2 .left))
+
+array-share-prefix-work : tie.Need-array-share-prefix-work
+array-share-prefix-work c = opened _ _ _ _ (lit≤ tt) (c .before .before .take-apart .ensures) (c .if3 .left) .fits
+
+slice-aggregate-answer : tie.Need-slice-aggregate-answer
+slice-aggregate-answer c = sym (length-take-le _ _ (opened _ _ _ _ (lit≤ tt) (c .before .before .before .take-apart .ensures) (c .before .if3 .left) .fits))
+
+answer-requires : tie.Need-answer-requires
+answer-requires c κs =
+    let n = c .before .before .before in
+    let t = n .before .before in
+    let e = t .before .before in
+    (is-usable e, contents-short _ _ _ _ (lit≤ tt) (t .take-apart .ensures) (n .if3 .left), e .if2 .left)
+
+same-length-4 : tie.Need-same-length-4
+same-length-4 c = search needs
+
+same-length-5 : tie.Need-same-length-5
+same-length-5 c = search needs
+
+returns-4 : tie.Need-returns-4
+returns-4 c =
+    let k = c .before .before .before .before in
+    let n = k .before .before .before .before in
+    let t = n .before .before in
+    let e = t .before .before in
+    answered-serves _ _ _ _ (lit≤ tt) (t .take-apart .ensures) (n .if3 .left) _ _ _ _ _ (is-usable e) (e .if2 .left) (k .answer .ensures)
+
+pub serve-spec : {M : Type 1} → statement M
+serve-spec =
+    tie.close
+    (tie.spec
+    is-usable-requires
+    same-length
+    returns
+    same-length-2
+    returns-2
+    slice-aggregate-take-apart
+    take-apart-requires
+    same-length-3
+    returns-3
+    array-share-prefix-work
+    slice-aggregate-answer
+    answer-requires
+    same-length-4
+    same-length-5
+    returns-4)

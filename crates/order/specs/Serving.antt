@@ -1,0 +1,42 @@
+-- Demand 3's words for serving: a call, what it is answered, and when two calls clash (document 01, "Cells"). Assumes nothing.
+use mathlib.Core.Path.{_≡_}
+use mathlib.Core.Logic.{_⊎_}
+use mathlib.Core.List.{List, [], List·Memᴰ}
+use mathlib.Core.Bool.{true}
+use Prim.Native.Nat.{ℕ, _≤_}
+use native.Mathlib.Omega.{arith}
+use lib.ListN.{length, getD, take, replicate, length-replicate}
+use Rattle.image.specs.declared.cell.Cell.{Cell}
+use Rattle.image.specs.Image.{Version, usable}
+use Rattle.command.specs.declared.verdict.Verdict.{Verdict}
+use Rattle.command.specs.Serve.{heard, readsOf, writesOf}
+use Rattle.izk.specs.Block.{served}
+
+-- a frame, and an output with room; each call has its own
+pub record Call : Type 0 where
+  pub frame : List ℕ
+  pub out : List ℕ
+  pub room : 269 ≤ length out
+
+-- a frame with an output of its own; and no frame, for places outside a list
+abbrev pub call : List ℕ → Call
+call f = record { frame = f; out = replicate 269 0; room = rw (length-replicate {A = ℕ} 269 0) (omega arith) }
+
+abbrev pub nothing : Call
+nothing = call []
+
+-- the number and the reply, as it stands in the output; and the image. Characters behind the reply are not spoken of
+abbrev pub step : Version → List ℕ → Call → (ℕ × List ℕ) × List ℕ
+step v m x = let a = served v (x .frame) m (x .out) in ((a .number, take (a .len) (a .out)), a .image)
+
+-- a usable image of address a
+abbrev pub Good : Version → ℕ → List ℕ → Type 0
+Good v a m = (usable v m ≡ true) × (getD m 5 0 ≡ a)
+
+-- the first writes a cell that the second reads or writes
+abbrev pub Meets : Verdict → Verdict → Type 0
+Meets x y = (c : Cell) × List·Memᴰ c (writesOf x) × (List·Memᴰ c (readsOf y) ⊎ List·Memᴰ c (writesOf y))
+
+-- at a block of address a, one of the two does so to the other
+abbrev pub Clash : ℕ → Call → Call → Type 0
+Clash a x y = Meets (heard a (x .frame)) (heard a (y .frame)) ⊎ Meets (heard a (y .frame)) (heard a (x .frame))
