@@ -29,16 +29,10 @@ use Rattle.command.specs.Reply.{Lays}
 use Rattle.command.proofs.Stores.{extent-view, size-some}
 use Rattle.command.proofs.Commute.{extent-fits}
 
--- ---- a match's last arm knows the tag alone
+-- ---- a match's last arm knows the tag alone; an error table has tag 4, a part 5
 
 pub all-counts : (d : Cell) (n : ℕ) → OneOf (0 ∷ 1 ∷ 2 ∷ 3 ∷ 5 ∷ 6 ∷ []) (tagOf the-type d) → size d ≡ extent d n
-all-counts Mask n h = refl
-all-counts Mode n h = refl
-all-counts Clock n h = refl
-all-counts (Constants c) n h = refl
-all-counts (Errors e) n h = absurd (miss (0 ∷ 1 ∷ 2 ∷ 3 ∷ 5 ∷ 6 ∷ []) 4 tt h)
-all-counts (Part k p) n h = refl
-all-counts (Table k) n h = refl
+all-counts d n h = ⊎-elim (λ w. sym (w n)) (λ p. absurd (miss (0 ∷ 1 ∷ 2 ∷ 3 ∷ 5 ∷ 6 ∷ []) 4 tt (rw (p .1) at h))) (extent-view d)
 
 pub no-bit : (d : Cell) (m : List ℕ) → OneOf (0 ∷ 1 ∷ 2 ∷ 3 ∷ 4 ∷ 6 ∷ []) (tagOf the-type d) → m ≡ touched (bitOf d) m
 no-bit Mask m h = refl

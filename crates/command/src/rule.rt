@@ -57,74 +57,59 @@ pub fn rule_of(command: u8) -> Found
     ensures { λ r. ⌜ r ≡ lookup command table ⌝ }
 {
     match command {
-        50 => line(Long::Is(3), Names::Mask, Values::Anything, 0, Act::Show),
-        51 => line(Long::Is(4), Names::Mask, Values::Anything, 1, Act::Store(2)),
-        53 => line(
-            Long::Is(87),
-            Names::Channel,
-            Values::Constants,
-            0,
-            Act::Store(3),
-        ),
-        54 => line(Long::Is(4), Names::Channel, Values::Anything, 1, Act::Show),
-        55 => line(Long::Is(4), Names::Channel, Values::Anything, 1, Act::Sign),
-        59 => line(
-            Long::Is(133),
-            Names::TablePart,
-            Values::Anything,
-            2,
-            Act::Store(4),
-        ),
-        60 => line(
-            Long::Is(5),
-            Names::TablePart,
-            Values::Anything,
-            2,
-            Act::Show,
-        ),
-        61 => line(
-            Long::Is(4),
-            Names::WholeTable,
-            Values::Anything,
-            1,
-            Act::Sign,
-        ),
-        62 => line(
-            Long::Rowed,
-            Names::ErrorRows,
-            Values::Rows,
-            1,
-            Act::Store(3),
-        ),
-        63 => line(
-            Long::Is(4),
-            Names::ErrorTable,
-            Values::Anything,
-            1,
-            Act::Show,
-        ),
-        64 => line(
-            Long::Is(4),
-            Names::ErrorTable,
-            Values::Anything,
-            1,
-            Act::Sign,
-        ),
-        76 => line(Long::Is(4), Names::Mode, Values::Mode, 1, Act::Store(2)),
-        77 => line(Long::Is(12), Names::Clock, Values::Clock, 0, Act::Store(2)),
-        78 => line(Long::Is(3), Names::Clock, Values::Anything, 0, Act::Show),
+        50 => shows(3, Names::Mask, 0),
+        51 => stores(Long::Is(4), Names::Mask, Values::Anything, 1, 2),
+        53 => stores(Long::Is(87), Names::Channel, Values::Constants, 0, 3),
+        54 => shows(4, Names::Channel, 1),
+        55 => signs(Names::Channel),
+        59 => stores(Long::Is(133), Names::TablePart, Values::Anything, 2, 4),
+        60 => shows(5, Names::TablePart, 2),
+        61 => signs(Names::WholeTable),
+        62 => stores(Long::Rowed, Names::ErrorRows, Values::Rows, 1, 3),
+        63 => shows(4, Names::ErrorTable, 1),
+        64 => signs(Names::ErrorTable),
+        76 => stores(Long::Is(4), Names::Mode, Values::Mode, 1, 2),
+        77 => stores(Long::Is(12), Names::Clock, Values::Clock, 0, 2),
+        78 => shows(3, Names::Clock, 0),
         _ => Found::Nothing,
     }
 }
 
-fn line(long: Long, names: Names, values: Values, echo: usize, act: Act) -> Found
-    ensures { λ r. ⌜ r ≡ Found.It (record { long = long; names = names; values = values; echo = echo; act = act }) ⌝ }
+// A command that shows takes bodies of one length and judges no value.
+fn shows(n: usize, names: Names, echo: usize) -> Found
+    ensures { λ r. ⌜ r ≡ Found.It (record { long = Long.Is n; names = names; values = Values.Anything; echo = echo; act = Act.Show }) ⌝ }
+{
+    Found::It(Rule {
+        long: Long::Is(n),
+        names,
+        values: Values::Anything,
+        echo,
+        act: Act::Show,
+    })
+}
+
+// One that signs takes the number of an item alone, and echoes it.
+fn signs(names: Names) -> Found
+    ensures { λ r. ⌜ r ≡ Found.It (record { long = Long.Is 4; names = names; values = Values.Anything; echo = 1; act = Act.Sign }) ⌝ }
+{
+    Found::It(Rule {
+        long: Long::Is(4),
+        names,
+        values: Values::Anything,
+        echo: 1,
+        act: Act::Sign,
+    })
+}
+
+// One that stores does so from an index of the body on.
+fn stores(long: Long, names: Names, values: Values, echo: usize, from: usize) -> Found
+    ensures { λ r. ⌜ r ≡ Found.It (record { long = long; names = names; values = values; echo = echo; act = Act.Store from }) ⌝ }
 {
     Found::It(Rule {
         long,
         names,
         values,
         echo,
-        act,
+        act: Act::Store(from),
     })
 }

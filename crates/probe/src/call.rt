@@ -1,0 +1,131 @@
+// A record of the script, carried out.
+use crate::print;
+use crate::script;
+use crate::script::State;
+use frame::Answer;
+ghost use Prim.Native.Nat.{_<_, _≤_};
+ghost use lib.ListN.{length};
+
+fn least(a: usize, b: usize) -> usize
+    ensures { λ r. ⌜ r ≤ b ⌝ }
+{
+    if a < b { a } else { b }
+}
+
+fn fill(out: &mut [u8], b: u8) {
+    let mut i = 0;
+    while i < out.len() {
+        out[i] = b;
+        i += 1;
+    }
+}
+
+fn poke(image: &mut [u8], at: usize, b: u8) {
+    if at < image.len() {
+        image[at] = b;
+    }
+}
+
+fn answered(letter: u8, a: Answer) {
+    print::letter(letter);
+    print::number(a.number as u64);
+    print::number(a.len as u64);
+}
+
+fn serve(frame: &[u8], image: &mut [u8], out: &mut [u8]) {
+    answered(b'S', izk::serve(frame, image, out));
+    print::bytes(image);
+    print::bytes(out);
+    print::end();
+}
+
+fn fresh(address: u8, image: &mut [u8]) {
+    let number = izk::fresh(image, address);
+    print::letter(b'F');
+    print::number(number as u64);
+    print::bytes(image);
+    print::end();
+}
+
+fn held(rec: &[u8], image: &[u8]) {
+    let table = 65536 * script::two(rec, 1) + script::two(rec, 3);
+    let h = izk::held_parts(image, table as u32);
+    print::letter(b'H');
+    print::number(h.number as u64);
+    print::number(h.parts as u64);
+    print::number(h.missing as u64);
+    print::end();
+}
+
+fn take_apart(frame: &[u8], out: &mut [u8]) {
+    answered(b'T', izk::take_apart(frame, out));
+    print::bytes(out);
+    print::end();
+}
+
+fn build(contents: &[u8], out: &mut [u8]) {
+    answered(b'B', izk::build(contents, out));
+    print::bytes(out);
+    print::end();
+}
+
+// A record that prints a line. A frame, or the contents of one, stands behind its length.
+fn call(rec: &[u8], image: &mut [u8], out: &mut [u8])
+    requires { ⌜ 2 ≤ length (now rec) ⌝ }
+{
+    let letter = rec[0];
+    let from = least(3, rec.len());
+    match letter {
+        b'F' => fresh(rec[1], image),
+        b'H' => held(rec, image),
+        b'S' => serve(&rec[from..], image, out),
+        b'T' => take_apart(&rec[from..], out),
+        _ => build(&rec[from..], out),
+    }
+}
+
+// One record, or the end of the run where none can be read.
+pub(crate) fn step(state: State, text: &[u8], image: &mut [u8], out: &mut [u8]) -> State
+    requires { ⌜ state .at < length (now text) ⌝ }
+    ensures { λ r. ⌜ state .at < r .at ⌝ }
+{
+    let at = state.at;
+    let n = script::size(&text[at..]);
+    if n < 2 {
+        print::letter(b'?');
+        print::end();
+        return State {
+            at: text.len(),
+            long: 0,
+            room: 0,
+        };
+    }
+    let e = at + n;
+    let rec = &text[at..e];
+    let letter = rec[0];
+    let long = least(state.long, image.len());
+    let room = least(state.room, out.len());
+    match letter {
+        b'L' => State {
+            at: e,
+            long: script::three(rec, 1),
+            room,
+        },
+        b'P' => {
+            poke(image, script::three(rec, 1), script::byte(rec, 4));
+            State { at: e, long, room }
+        }
+        b'O' => {
+            fill(out, script::byte(rec, 3));
+            State {
+                at: e,
+                long,
+                room: script::two(rec, 1),
+            }
+        }
+        _ => {
+            call(rec, &mut image[..long], &mut out[..room]);
+            State { at: e, long, room }
+        }
+    }
+}

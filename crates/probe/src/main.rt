@@ -1,0 +1,27 @@
+// Shows what the desk program cannot: the image and the output after each call of a script. tests/PROBE.md has the script's form.
+mod call;
+mod print;
+mod script;
+
+use libc::STDIN_FILENO;
+use script::State;
+
+fn main() {
+    let mut text = io::large_buffer();
+    let n = io::read_full(STDIN_FILENO, &mut text);
+    let mut image = [0u8; 24000];
+    let mut out = [0u8; 400];
+    run(&text[..n], &mut image, &mut out);
+}
+
+// Every record moves on, so the script comes to its end.
+fn run(text: &[u8], image: &mut [u8], out: &mut [u8]) {
+    let mut state = State {
+        at: 0,
+        long: 23753,
+        room: 269,
+    };
+    while state.at < text.len() {
+        state = call::step(state, text, image, out);
+    }
+}

@@ -1,0 +1,454 @@
+//! The rules of the block: frames, the image, and the fourteen commands.
+//!
+//! Five things are public: `serve`, `take_apart`, `build`, `fresh` and
+//! `held_parts`. Each takes every input. What is refused changes no buffer,
+//! so every check of a command stands before its first write.
+
+use std::ops::{Range, RangeInclusive};
+
+pub const IMAGE_BYTES: usize = 23_753;
+
+const FRAME_MIN: usize = 9;
+const FRAME_MAX: usize = 269;
+const BODY_MAX: usize = 133;
+const CONTENTS_MIN: usize = 2;
+const CONTENTS_MAX: usize = BODY_MAX - 1;
+
+// Places in the image.
+const HEAD: [u8; 5] = *b"IZK\x00\x01"; // mark and version
+const ADDRESS: usize = 5;
+const MASK: usize = 6;
+const MODE: usize = 7;
+const CLOCK: Range<usize> = 8..17;
+const WORDS: usize = 17;
+const CONSTANTS: usize = 49;
+const ERRORS: usize = 713;
+const TABLES: usize = 1225;
+
+// Sizes of the items kept there.
+const CONSTANTS_BYTES: usize = 83;
+const ERRORS_BYTES: usize = 64;
+const ROW_BYTES: usize = 3;
+const ROWS_MAX: u8 = 21;
+const TABLE_BYTES: usize = 1408;
+const PART_BYTES: usize = 128;
+const PARTS: u8 = 11;
+const ALL_PARTS: u16 = 2047;
+
+/// Body byte, counted from 1 at the address, at which the constants begin.
+const FIRST_CONSTANT: usize = 4;
+/// Body byte that names the gas composition.
+const GAS: usize = 7;
+/// Body bytes kept in reserve, each span with both its ends.
+const RESERVE: [(usize, usize); 8] = [
+    (17, 20),
+    (23, 26),
+    (29, 32),
+    (35, 38),
+    (43, 46),
+    (49, 68),
+    (71, 72),
+    (75, 78),
+];
+/// Lowest and highest value of each clock byte, seconds first.
+const CLOCK_LIMITS: [RangeInclusive<u8>; 9] = [
+    0..=59,
+    0..=59,
+    0..=23,
+    1..=7,
+    1..=31,
+    1..=12,
+    0..=99,
+    0..=0,
+    0..=0,
+];
+
+/// Why a call was refused; the value of each is the number reported.
+#[derive(Clone, Copy, Debug, PartialEq, Eq)]
+pub enum Refusal {
+    Image = 1,
+    Output = 2,
+    Length = 3,
+    Ends = 4,
+    Digit = 5,
+    Checksum = 6,
+    Address = 7,
+    Command = 8,
+    BodyLength = 9,
+    Item = 10,
+    Value = 11,
+}
+
+impl Refusal {
+    pub fn number(self) -> u8 {
+        self as u8
+    }
+}
+
+/// Serves one frame on the image and gives the length of the reply frame.
+pub fn serve(image: &mut [u8], frame: &[u8], output: &mut [u8]) -> Result<usize, Refusal> {
+    if !usable(image) {
+        return Err(Refusal::Image);
+    }
+    if output.len() < FRAME_MAX {
+        return Err(Refusal::Output);
+    }
+    let mut body = [0; BODY_MAX];
+    let contents = decode(frame, &mut body)?;
+    let (address, command) = (contents[0], contents[1]);
+    if address != image[ADDRESS] {
+        return Err(Refusal::Address);
+    }
+    let mut reply = Reply::new(address, command);
+    obey(image, command, &contents[2..], &mut reply)?;
+    Ok(encode(reply.contents(), output))
+}
+
+/// Writes the frame's contents, checksum left off, and gives their length.
+pub fn take_apart(frame: &[u8], output: &mut [u8]) -> Result<usize, Refusal> {
+    if output.len() < CONTENTS_MAX {
+        return Err(Refusal::Output);
+    }
+    let mut body = [0; BODY_MAX];
+    let contents = decode(frame, &mut body)?;
+    output[..contents.len()].copy_from_slice(contents);
+    Ok(contents.len())
+}
+
+/// Writes the frame that carries these contents and gives its length.
+/// The one place where a higher number (3) goes before a lower one (2).
+pub fn build(contents: &[u8], output: &mut [u8]) -> Result<usize, Refusal> {
+    if !(CONTENTS_MIN..=CONTENTS_MAX).contains(&contents.len()) {
+        return Err(Refusal::Length);
+    }
+    if output.len() < 2 * contents.len() + 5 {
+        return Err(Refusal::Output);
+    }
+    Ok(encode(contents, output))
+}
+
+/// Lays out an image on which nothing has been written yet.
+pub fn fresh(image: &mut [u8], address: u8) -> Result<(), Refusal> {
+    if image.len() != IMAGE_BYTES {
+        return Err(Refusal::Image);
+    }
+    if address == 0 {
+        return Err(Refusal::Value);
+    }
+    image.fill(0);
+    image[..HEAD.len()].copy_from_slice(&HEAD);
+    image[ADDRESS] = address;
+    Ok(())
+}
+
+/// Number of parts held of a table, and the lowest part not held (0: none).
+pub fn held_parts(image: &[u8], table: u32) -> Result<(u32, u32), Refusal> {
+    if !usable(image) {
+        return Err(Refusal::Image);
+    }
+    let word = held_word(image, table_index(table)?);
+    let missing = match word {
+        ALL_PARTS => 0,
+        _ => word.trailing_ones() + 1,
+    };
+    Ok((word.count_ones(), missing))
+}
+
+/// Only what later steps rely on is judged: length, head, counts and words.
+fn usable(image: &[u8]) -> bool {
+    image.len() == IMAGE_BYTES
+        && image[..HEAD.len()] == HEAD
+        && image[ADDRESS] != 0
+        && (0..16).all(|table| held_word(image, table) <= ALL_PARTS)
+        && (0..8).all(|table| image[ERRORS + table * ERRORS_BYTES] <= ROWS_MAX)
+}
+
+/// Fills `body` from the frame; what it gives back leaves the checksum out.
+fn decode<'a>(frame: &[u8], body: &'a mut [u8; BODY_MAX]) -> Result<&'a [u8], Refusal> {
+    if frame.len() < FRAME_MIN || frame.len() > FRAME_MAX || frame.len().is_multiple_of(2) {
+        return Err(Refusal::Length);
+    }
+    let digits = frame
+        .strip_prefix(b":")
+        .and_then(|rest| rest.strip_suffix(b"\r\n"))
+        .ok_or(Refusal::Ends)?;
+    let mut sum = 0u8;
+    for (byte, pair) in body.iter_mut().zip(digits.chunks_exact(2)) {
+        *byte = half(pair[0])? << 4 | half(pair[1])?;
+        sum = sum.wrapping_add(*byte);
+    }
+    // The checksum is what brings the whole body's sum to 0.
+    if sum != 0 {
+        return Err(Refusal::Checksum);
+    }
+    Ok(&body[..digits.len() / 2 - 1])
+}
+
+/// Small letters and the characters between 9 and A are no digits here.
+fn half(character: u8) -> Result<u8, Refusal> {
+    match character {
+        b'0'..=b'9' => Ok(character - b'0'),
+        b'A'..=b'F' => Ok(character - b'A' + 10),
+        _ => Err(Refusal::Digit),
+    }
+}
+
+/// Writes a frame; the caller has made sure that the output has room.
+fn encode(contents: &[u8], output: &mut [u8]) -> usize {
+    const DIGITS: [u8; 16] = *b"0123456789ABCDEF";
+    let sum = contents
+        .iter()
+        .fold(0u8, |sum, &byte| sum.wrapping_add(byte));
+    let checksum = [sum.wrapping_neg()];
+    let end = 1 + 2 * (contents.len() + 1);
+    output[0] = b':';
+    let pairs = output[1..end].chunks_exact_mut(2);
+    for (pair, &byte) in pairs.zip(contents.iter().chain(&checksum)) {
+        pair[0] = DIGITS[usize::from(byte >> 4)];
+        pair[1] = DIGITS[usize::from(byte & 15)];
+    }
+    output[end..end + 2].copy_from_slice(b"\r\n");
+    end + 2
+}
+
+/// Contents of a reply as they grow.
+struct Reply {
+    bytes: [u8; CONTENTS_MAX],
+    length: usize,
+}
+
+impl Reply {
+    fn new(address: u8, command: u8) -> Self {
+        let mut reply = Reply {
+            bytes: [0; CONTENTS_MAX],
+            length: 0,
+        };
+        reply.put(&[address, command]);
+        reply
+    }
+
+    fn put(&mut self, bytes: &[u8]) {
+        let end = self.length + bytes.len();
+        self.bytes[self.length..end].copy_from_slice(bytes);
+        self.length = end;
+    }
+
+    fn contents(&self) -> &[u8] {
+        &self.bytes[..self.length]
+    }
+}
+
+/// Carries out one command; `data` is what stands between it and the checksum.
+fn obey(image: &mut [u8], command: u8, data: &[u8], reply: &mut Reply) -> Result<(), Refusal> {
+    match command {
+        50 => read_mask(image, data, reply),
+        51 => write_mask(image, data, reply),
+        53 => write_constants(image, data),
+        54 => read_constants(image, data, reply),
+        55 => sign(image, data, reply, constants_place),
+        59 => write_part(image, data, reply),
+        60 => read_part(image, data, reply),
+        61 => sign(image, data, reply, table_place),
+        62 => write_errors(image, data, reply),
+        63 => read_errors(image, data, reply),
+        64 => sign(image, data, reply, errors_place),
+        76 => write_mode(image, data, reply),
+        77 => write_clock(image, data),
+        78 => read_clock(image, data, reply),
+        _ => Err(Refusal::Command),
+    }
+}
+
+/// The data as an array, if it has just the command's length.
+fn exactly<const N: usize>(data: &[u8]) -> Result<&[u8; N], Refusal> {
+    data.try_into().map_err(|_| Refusal::BodyLength)
+}
+
+fn read_mask(image: &[u8], data: &[u8], reply: &mut Reply) -> Result<(), Refusal> {
+    let [] = exactly(data)?;
+    reply.put(&[image[MASK]]);
+    Ok(())
+}
+
+fn write_mask(image: &mut [u8], data: &[u8], reply: &mut Reply) -> Result<(), Refusal> {
+    let &[mask] = exactly(data)?;
+    image[MASK] = mask;
+    reply.put(&[mask]);
+    Ok(())
+}
+
+fn write_mode(image: &mut [u8], data: &[u8], reply: &mut Reply) -> Result<(), Refusal> {
+    let &[mode] = exactly(data)?;
+    if mode != 0x00 && mode != 0xFF {
+        return Err(Refusal::Value);
+    }
+    image[MODE] = mode;
+    reply.put(&[mode]);
+    Ok(())
+}
+
+fn write_clock(image: &mut [u8], data: &[u8]) -> Result<(), Refusal> {
+    let clock: &[u8; 9] = exactly(data)?;
+    let mut limits = CLOCK_LIMITS.iter().zip(clock);
+    if !limits.all(|(limit, byte)| limit.contains(byte)) {
+        return Err(Refusal::Value);
+    }
+    image[CLOCK].copy_from_slice(clock);
+    Ok(())
+}
+
+fn read_clock(image: &[u8], data: &[u8], reply: &mut Reply) -> Result<(), Refusal> {
+    let [] = exactly(data)?;
+    reply.put(&image[CLOCK]);
+    Ok(())
+}
+
+fn write_constants(image: &mut [u8], data: &[u8]) -> Result<(), Refusal> {
+    let [channel, constants @ ..] = exactly::<{ 1 + CONSTANTS_BYTES }>(data)?;
+    let place = constants_place(*channel)?;
+    let gas = constants[GAS - FIRST_CONSTANT];
+    let reserve_clear = RESERVE.iter().all(|&(first, last)| {
+        constants[first - FIRST_CONSTANT..=last - FIRST_CONSTANT]
+            .iter()
+            .all(|&byte| byte == 0)
+    });
+    if !(1..=13).contains(&gas) || !reserve_clear {
+        return Err(Refusal::Value);
+    }
+    image[place].copy_from_slice(constants);
+    Ok(())
+}
+
+fn read_constants(image: &[u8], data: &[u8], reply: &mut Reply) -> Result<(), Refusal> {
+    let &[channel] = exactly(data)?;
+    let place = constants_place(channel)?;
+    reply.put(&[channel]);
+    reply.put(&image[place]);
+    Ok(())
+}
+
+fn write_part(image: &mut [u8], data: &[u8], reply: &mut Reply) -> Result<(), Refusal> {
+    let [table, part, rows @ ..] = exactly::<{ 2 + PART_BYTES }>(data)?;
+    let index = table_index(u32::from(*table))?;
+    let place = part_place(index, *part)?;
+    image[place].copy_from_slice(rows);
+    let word = held_word(image, index) | 1 << (part - 1);
+    image[word_place(index)].copy_from_slice(&word.to_be_bytes());
+    reply.put(&[*table, *part]);
+    Ok(())
+}
+
+fn read_part(image: &[u8], data: &[u8], reply: &mut Reply) -> Result<(), Refusal> {
+    let &[table, part] = exactly(data)?;
+    let place = part_place(table_index(u32::from(table))?, part)?;
+    reply.put(&[table, part]);
+    reply.put(&image[place]);
+    Ok(())
+}
+
+fn write_errors(image: &mut [u8], data: &[u8], reply: &mut Reply) -> Result<(), Refusal> {
+    let [number, count, rows @ ..] = data else {
+        return Err(Refusal::BodyLength);
+    };
+    let k = rows.len() / ROW_BYTES;
+    if rows.len() % ROW_BYTES != 0 || k < 1 || k > usize::from(ROWS_MAX) {
+        return Err(Refusal::BodyLength);
+    }
+    let place = errors_place(*number)?;
+    if usize::from(*count) != k {
+        return Err(Refusal::Item);
+    }
+    let temperatures = rows.chunks_exact(ROW_BYTES).map(|row| row[0] as i8);
+    if !temperatures.is_sorted_by(|earlier, later| earlier < later) {
+        return Err(Refusal::Value);
+    }
+    let table = &mut image[place];
+    table[0] = *count;
+    table[1..=rows.len()].copy_from_slice(rows);
+    // A longer table may have stood here; none of its rows may stay behind.
+    table[1 + rows.len()..].fill(0);
+    reply.put(&[*number]);
+    Ok(())
+}
+
+fn read_errors(image: &[u8], data: &[u8], reply: &mut Reply) -> Result<(), Refusal> {
+    let &[number] = exactly(data)?;
+    let table = &image[errors_place(number)?];
+    // A usable image has no count above 21, so the rows are all there.
+    let rows_end = 1 + usize::from(table[0]) * ROW_BYTES;
+    reply.put(&[number]);
+    reply.put(&table[..rows_end]);
+    Ok(())
+}
+
+/// Answers 55, 61 and 64: the bytes stored at the item's place, summed and
+/// kept to 16 bits.
+fn sign(
+    image: &[u8],
+    data: &[u8],
+    reply: &mut Reply,
+    place: fn(u8) -> Result<Range<usize>, Refusal>,
+) -> Result<(), Refusal> {
+    let &[item] = exactly(data)?;
+    let sum: u32 = image[place(item)?]
+        .iter()
+        .map(|&byte| u32::from(byte))
+        .sum();
+    reply.put(&[item]);
+    reply.put(&(sum as u16).to_be_bytes());
+    Ok(())
+}
+
+/// Constants count their channels from 0.
+fn constants_place(channel: u8) -> Result<Range<usize>, Refusal> {
+    match channel {
+        0..=7 => Ok(span(CONSTANTS, usize::from(channel), CONSTANTS_BYTES)),
+        _ => Err(Refusal::Item),
+    }
+}
+
+/// Error tables count from 1.
+fn errors_place(number: u8) -> Result<Range<usize>, Refusal> {
+    match number {
+        1..=8 => Ok(span(ERRORS, usize::from(number - 1), ERRORS_BYTES)),
+        _ => Err(Refusal::Item),
+    }
+}
+
+fn table_place(table: u8) -> Result<Range<usize>, Refusal> {
+    let index = table_index(u32::from(table))?;
+    Ok(span(TABLES, index, TABLE_BYTES))
+}
+
+/// Main tables take the places 0 to 7, additional ones 8 to 15.
+fn table_index(table: u32) -> Result<usize, Refusal> {
+    match table {
+        1..=8 => Ok(table as usize - 1),
+        11..=18 => Ok(table as usize - 3),
+        _ => Err(Refusal::Item),
+    }
+}
+
+fn part_place(index: usize, part: u8) -> Result<Range<usize>, Refusal> {
+    match part {
+        1..=PARTS => {
+            let table = TABLES + index * TABLE_BYTES;
+            Ok(span(table, usize::from(part - 1), PART_BYTES))
+        }
+        _ => Err(Refusal::Item),
+    }
+}
+
+fn word_place(index: usize) -> Range<usize> {
+    span(WORDS, index, 2)
+}
+
+fn held_word(image: &[u8], index: usize) -> u16 {
+    let at = word_place(index).start;
+    u16::from_be_bytes([image[at], image[at + 1]])
+}
+
+fn span(start: usize, index: usize, bytes: usize) -> Range<usize> {
+    let first = start + index * bytes;
+    first..first + bytes
+}

@@ -1,0 +1,261 @@
+//! The differential test: seeded streams and scripts are given to the model
+//! and to the programs under test, and their lines are held side by side.
+
+use std::fmt::Write as _;
+use std::io::{self, Read, Write};
+use std::path::{Path, PathBuf};
+use std::process::{Child, Command, Stdio};
+use std::sync::mpsc;
+use std::thread;
+use std::time::Duration;
+
+use crate::coverage::Coverage;
+use crate::probe::{Probe, Record, Records};
+use crate::{desk, desk_streams, probe_scripts};
+
+/// A program that takes longer than this is stopped and has failed.
+const PATIENCE: Duration = Duration::from_secs(60);
+/// No right output comes near this; what goes past it is not kept.
+const OUTPUT_MAX: u64 = 8 << 20;
+/// Failures shown in full; further ones are only counted.
+const SHOWN: usize = 10;
+/// Longest piece of text shown of a record or a line.
+const TEXT_MAX: usize = 600;
+
+pub struct Options {
+    pub desk: PathBuf,
+    pub probe: PathBuf,
+    pub streams: usize,
+    pub seed: u64,
+    pub prefix: Vec<String>,
+}
+
+/// Tests passed and failed so far, and the report's way out.
+struct Tally<W: Write> {
+    passed: usize,
+    failed: usize,
+    out: W,
+}
+
+impl<W: Write> Tally<W> {
+    fn note(&mut self, outcome: Result<(), String>) -> io::Result<()> {
+        match outcome {
+            Ok(()) => self.passed += 1,
+            Err(fault) => {
+                self.failed += 1;
+                if self.failed <= SHOWN {
+                    writeln!(self.out, "FAILED {fault}\n")?;
+                }
+            }
+        }
+        Ok(())
+    }
+}
+
+/// Runs the whole test; true if nothing failed.
+pub fn compare(options: &Options) -> io::Result<bool> {
+    let mut coverage = Coverage::default();
+    let mut tally = Tally {
+        passed: 0,
+        failed: 0,
+        out: io::stdout().lock(),
+    };
+    for number in 0..options.streams {
+        let outcome = try_desk(options, number, &mut coverage);
+        tally.note(outcome)?;
+    }
+    for number in 0..options.streams {
+        let outcome = try_probe(options, number, &mut coverage);
+        tally.note(outcome)?;
+    }
+    coverage.print(&mut tally.out)?;
+    let missing = coverage.missing();
+    for thing in &missing {
+        writeln!(tally.out, "never came up: {thing}")?;
+    }
+    tally.note(match missing.is_empty() {
+        true => Ok(()),
+        false => Err("coverage: see what never came up, above".to_string()),
+    })?;
+    let (passed, failed) = (tally.passed, tally.failed);
+    if failed > SHOWN {
+        writeln!(tally.out, "only the first {SHOWN} failures are shown")?;
+    }
+    writeln!(tally.out, "{passed} passed, {failed} failed")?;
+    Ok(failed == 0)
+}
+
+fn try_desk(options: &Options, number: usize, coverage: &mut Coverage) -> Result<(), String> {
+    let seed = options.seed;
+    let (name, input) = desk_streams::stream(seed, number);
+    let expected = desk::lines(&input);
+    if input.len() <= desk::INPUT_MAX {
+        for (line, piece) in expected.iter().zip(desk::pieces(&input)) {
+            coverage.count_served('D', number_in(line, 0), piece);
+        }
+    }
+    let about = |line: usize| match desk::pieces(&input).nth(line) {
+        _ if input.len() > desk::INPUT_MAX => format!("input of {} bytes", input.len()),
+        Some(piece) => format!("piece {}", printable(piece)),
+        None => "past the last piece".to_string(),
+    };
+    judge((&options.desk, &options.prefix), &input, &expected, about)
+        .map_err(|fault| format!("desk stream {number} ({name}), seed {seed}\n{fault}"))
+}
+
+fn try_probe(options: &Options, number: usize, coverage: &mut Coverage) -> Result<(), String> {
+    let seed = options.seed;
+    let (name, script) = probe_scripts::script(seed, number);
+    let mut expected = Vec::new();
+    let mut probe = Probe::new();
+    for record in Records::new(&script) {
+        if let Some(line) = probe.step(record) {
+            count_record(coverage, record, number_in(&line, 1));
+            expected.push(line);
+        }
+    }
+    let about = |line| describe(&script, line);
+    judge((&options.probe, &options.prefix), &script, &expected, about)
+        .map_err(|fault| format!("probe script {number} ({name}), seed {seed}\n{fault}"))
+}
+
+fn count_record(coverage: &mut Coverage, record: Record, number: u8) {
+    match record {
+        Record::Serve(frame) => coverage.count_served('S', number, frame),
+        Record::TakeApart(_) => coverage.count('T', number),
+        Record::Build(_) => coverage.count('B', number),
+        Record::Fresh(_) => coverage.count('F', number),
+        Record::Held(_) => coverage.count('H', number),
+        _ => {}
+    }
+}
+
+/// The refusal number in a line of the model; lines without one give 0.
+fn number_in(line: &str, word: usize) -> u8 {
+    line.split(' ')
+        .nth(word)
+        .and_then(|text| text.parse().ok())
+        .unwrap_or(0)
+}
+
+/// The record behind a line of the probe, with the lengths it met.
+fn describe(script: &[u8], line: usize) -> String {
+    let mut probe = Probe::new();
+    let mut printed = 0;
+    for record in Records::new(script) {
+        if probe.step(record).is_none() {
+            continue;
+        }
+        if printed == line {
+            let (image, output) = (probe.image_length, probe.output_length);
+            return format!("record {} (image {image}, output {output})", spell(record));
+        }
+        printed += 1;
+    }
+    "past the last record".to_string()
+}
+
+fn spell(record: Record) -> String {
+    match record {
+        Record::Fresh(address) => format!("F {address}"),
+        Record::Serve(bytes) => format!("S {}", printable(bytes)),
+        Record::TakeApart(bytes) => format!("T {}", printable(bytes)),
+        Record::Build(bytes) => format!("B {}", printable(bytes)),
+        Record::Held(table) => format!("H {table}"),
+        _ => "that is broken".to_string(),
+    }
+}
+
+/// Plain characters as they are, others and `<` in hex between angles.
+fn printable(bytes: &[u8]) -> String {
+    let mut text = String::new();
+    for &byte in bytes.iter().take(TEXT_MAX) {
+        match byte {
+            b'<' | 0..=31 | 127.. => _ = write!(text, "<{byte:02X}>"),
+            _ => text.push(char::from(byte)),
+        }
+    }
+    if bytes.len() > TEXT_MAX {
+        _ = write!(text, "... ({} bytes)", bytes.len());
+    }
+    text
+}
+
+/// Holds the output to the expected lines, line feeds included.
+fn hold(expected: &[String], got: &[u8], about: impl Fn(usize) -> String) -> Result<(), String> {
+    let mut lines = got.split_inclusive(|&byte| byte == b'\n');
+    for index in 0.. {
+        let want = expected.get(index).map(|line| format!("{line}\n"));
+        let have = lines.next();
+        if want.as_deref().map(str::as_bytes) != have {
+            let show = |line: Option<&[u8]>| line.map_or("no line".to_string(), printable);
+            return Err(format!(
+                "  line     {}\n  at       {}\n  expected {}\n  got      {}",
+                index + 1,
+                about(index),
+                show(want.as_deref().map(str::as_bytes)),
+                show(have),
+            ));
+        }
+        if have.is_none() {
+            break;
+        }
+    }
+    Ok(())
+}
+
+/// Runs a program on the input and holds its lines to the expected ones.
+fn judge(
+    (program, prefix): (&Path, &[String]),
+    input: &[u8],
+    expected: &[String],
+    about: impl Fn(usize) -> String,
+) -> Result<(), String> {
+    let mut child = start(program, prefix).map_err(|fault| format!("  cannot start: {fault}"))?;
+    let output = exchange(&mut child, input.to_vec());
+    if output.is_err() {
+        // It may have ended by itself in the meantime, which is as good.
+        _ = child.kill();
+    }
+    let status = child
+        .wait()
+        .map_err(|fault| format!("  cannot wait: {fault}"))?;
+    hold(expected, &output?, about)?;
+    match status.success() {
+        true => Ok(()),
+        false => Err(format!("  its lines are right, but it ended with {status}")),
+    }
+}
+
+fn start(program: &Path, prefix: &[String]) -> io::Result<Child> {
+    let mut command = match prefix.split_first() {
+        Some((first, rest)) => {
+            let mut command = Command::new(first);
+            command.args(rest).arg(program);
+            command
+        }
+        None => Command::new(program),
+    };
+    command.stdin(Stdio::piped()).stdout(Stdio::piped()).spawn()
+}
+
+/// Writes and reads at the same time, so that neither side can block the
+/// other. A program need not read its input to the end.
+fn exchange(child: &mut Child, input: Vec<u8>) -> Result<Vec<u8>, String> {
+    let (Some(mut stdin), Some(stdout)) = (child.stdin.take(), child.stdout.take()) else {
+        return Err("  has no pipes".to_string());
+    };
+    thread::spawn(move || stdin.write_all(&input));
+    let (sender, receiver) = mpsc::channel();
+    thread::spawn(move || {
+        let mut output = Vec::new();
+        let read = stdout.take(OUTPUT_MAX).read_to_end(&mut output);
+        // Nobody listens any more once patience has run out.
+        _ = sender.send(read.map(|_| output));
+    });
+    match receiver.recv_timeout(PATIENCE) {
+        Ok(Ok(output)) => Ok(output),
+        Ok(Err(fault)) => Err(format!("  cannot read: {fault}")),
+        Err(_) => Err(format!("  not done after {} seconds", PATIENCE.as_secs())),
+    }
+}

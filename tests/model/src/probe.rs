@@ -1,0 +1,195 @@
+//! The probe program: a script of calls on buffers of any length, so that
+//! what the desk cannot show (numbers 1 and 2, images, untouched output) is
+//! compared as well.
+
+use crate::block::{self, Refusal, IMAGE_BYTES};
+
+pub const SCRIPT_MAX: usize = 65_536;
+
+const IMAGE_ROOM: usize = 24_000;
+const OUTPUT_ROOM: usize = 400;
+
+/// One record of a script.
+#[derive(Clone, Copy)]
+pub enum Record<'a> {
+    ImageLength(usize),
+    Poke {
+        offset: usize,
+        value: u8,
+    },
+    Output {
+        length: usize,
+        fill: u8,
+    },
+    Fresh(u8),
+    Serve(&'a [u8]),
+    TakeApart(&'a [u8]),
+    Build(&'a [u8]),
+    Held(u32),
+    /// An unknown letter, or a record that the script's end cuts off.
+    Broken,
+}
+
+/// The records of a script, of which only the first 65,536 bytes are read.
+pub struct Records<'a> {
+    rest: &'a [u8],
+}
+
+impl<'a> Records<'a> {
+    pub fn new(script: &'a [u8]) -> Self {
+        let length = script.len().min(SCRIPT_MAX);
+        Records {
+            rest: &script[..length],
+        }
+    }
+
+    fn take(&mut self, count: usize) -> Option<&'a [u8]> {
+        let (taken, rest) = self.rest.split_at_checked(count)?;
+        self.rest = rest;
+        Some(taken)
+    }
+
+    /// A number of this many bytes, high byte first.
+    fn number(&mut self, count: usize) -> Option<usize> {
+        let bytes = self.take(count)?;
+        Some(
+            bytes
+                .iter()
+                .fold(0, |sum, &byte| sum << 8 | usize::from(byte)),
+        )
+    }
+
+    fn byte(&mut self) -> Option<u8> {
+        Some(self.take(1)?[0])
+    }
+
+    fn counted(&mut self) -> Option<&'a [u8]> {
+        let length = self.number(2)?;
+        self.take(length)
+    }
+
+    /// The whole record, or nothing if it is unknown or cut short.
+    fn record(&mut self) -> Option<Record<'a>> {
+        Some(match self.byte()? {
+            b'L' => Record::ImageLength(self.number(3)?.min(IMAGE_ROOM)),
+            b'P' => Record::Poke {
+                offset: self.number(3)?,
+                value: self.byte()?,
+            },
+            b'O' => Record::Output {
+                length: self.number(2)?.min(OUTPUT_ROOM),
+                fill: self.byte()?,
+            },
+            b'F' => Record::Fresh(self.byte()?),
+            b'S' => Record::Serve(self.counted()?),
+            b'T' => Record::TakeApart(self.counted()?),
+            b'B' => Record::Build(self.counted()?),
+            b'H' => Record::Held(self.number(4)? as u32),
+            _ => return None,
+        })
+    }
+}
+
+impl<'a> Iterator for Records<'a> {
+    type Item = Record<'a>;
+
+    fn next(&mut self) -> Option<Record<'a>> {
+        if self.rest.is_empty() {
+            return None;
+        }
+        let record = self.record();
+        if record.is_none() {
+            self.rest = &[]; // nothing after a broken record is read
+        }
+        Some(record.unwrap_or(Record::Broken))
+    }
+}
+
+/// The two buffers, with the lengths that the calls see of them.
+pub struct Probe {
+    image: Vec<u8>,
+    pub image_length: usize,
+    output: Vec<u8>,
+    pub output_length: usize,
+}
+
+impl Probe {
+    pub fn new() -> Self {
+        Probe {
+            image: vec![0; IMAGE_ROOM],
+            image_length: IMAGE_BYTES,
+            output: vec![0; OUTPUT_ROOM],
+            output_length: 269,
+        }
+    }
+
+    /// Carries out a record and gives the line it prints, if it prints one.
+    pub fn step(&mut self, record: Record) -> Option<String> {
+        let image = &mut self.image[..self.image_length];
+        let output = &mut self.output[..self.output_length];
+        match record {
+            Record::ImageLength(length) => self.image_length = length,
+            Record::Poke { offset, value } => {
+                if let Some(byte) = self.image.get_mut(offset) {
+                    *byte = value;
+                }
+            }
+            Record::Output { length, fill } => {
+                self.output_length = length;
+                self.output.fill(fill);
+            }
+            Record::Fresh(address) => {
+                let number = number(&block::fresh(image, address));
+                return Some(format!("F {number} {}", digest(image)));
+            }
+            Record::Serve(frame) => {
+                let answer = spell(block::serve(image, frame, output));
+                return Some(format!("S {answer} {} {}", digest(image), digest(output)));
+            }
+            Record::TakeApart(frame) => {
+                let answer = spell(block::take_apart(frame, output));
+                return Some(format!("T {answer} {}", digest(output)));
+            }
+            Record::Build(contents) => {
+                let answer = spell(block::build(contents, output));
+                return Some(format!("B {answer} {}", digest(output)));
+            }
+            Record::Held(table) => return Some(held(image, table)),
+            Record::Broken => return Some("?".to_string()),
+        }
+        None
+    }
+}
+
+/// The probe's lines, without their line feeds.
+pub fn lines(script: &[u8]) -> Vec<String> {
+    let mut probe = Probe::new();
+    Records::new(script)
+        .filter_map(|record| probe.step(record))
+        .collect()
+}
+
+fn held(image: &[u8], table: u32) -> String {
+    let answer = block::held_parts(image, table);
+    let number = number(&answer);
+    let (parts, missing) = answer.unwrap_or((0, 0));
+    format!("H {number} {parts} {missing}")
+}
+
+fn spell(answer: Result<usize, Refusal>) -> String {
+    format!("{} {}", number(&answer), answer.unwrap_or(0))
+}
+
+fn number<T>(answer: &Result<T, Refusal>) -> u8 {
+    match answer {
+        Ok(_) => 0,
+        Err(refusal) => refusal.number(),
+    }
+}
+
+/// Short stand-in for a buffer: any changed byte changes it but by chance.
+fn digest(bytes: &[u8]) -> u64 {
+    bytes.iter().fold(1, |h, &byte| {
+        (h * 257 + u64::from(byte) + 1) % 4_294_967_291
+    })
+}

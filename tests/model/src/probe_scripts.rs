@@ -1,0 +1,558 @@
+//! Scripts for the probe program: first those with a purpose of their own,
+//! then broken records, then calls by chance.
+
+use crate::probe::SCRIPT_MAX;
+use crate::streams::{ask, clock, constants, errors, frame, part, piece, session, Rng, COMMANDS};
+
+const IMAGE_BYTES: usize = 23_753;
+const WORDS: usize = 17;
+const CONSTANTS: usize = 49;
+const ERRORS: usize = 713;
+const TABLES: usize = 1225;
+
+type Case = (&'static str, fn(&mut Rng) -> Script);
+
+const CASES: [Case; 20] = [
+    ("empty", |_| Script::default()),
+    ("rows at other addresses", other_addresses),
+    ("fresh images", fresh_images),
+    ("image lengths", image_lengths),
+    ("spoiled head", spoiled_head),
+    ("spoiled row counts", spoiled_counts),
+    ("spoiled words", spoiled_words),
+    ("unjudged bytes", unjudged_bytes),
+    ("output lengths of serve", serve_outputs),
+    ("output lengths of take apart", take_apart_outputs),
+    ("output lengths of build", build_outputs),
+    ("taking apart every length", take_apart_lengths),
+    ("one fault over another", fault_ladder),
+    ("every word", every_word),
+    ("table numbers", table_numbers),
+    ("parts with gaps", parts_with_gaps),
+    ("one write to each kind of cell", each_cell),
+    ("65,536 bytes in one record", |_| filled(SCRIPT_MAX)),
+    ("a record past 65,536 bytes", |_| filled(SCRIPT_MAX + 1)),
+    ("records after 65,536 bytes", records_past_end),
+];
+
+/// A script under construction.
+#[derive(Default)]
+pub struct Script(Vec<u8>);
+
+impl Script {
+    /// A letter, then a number high byte first in so many bytes.
+    fn put(&mut self, letter: u8, number: usize, bytes: usize) -> &mut Self {
+        self.0.push(letter);
+        self.0.extend(&(number as u64).to_be_bytes()[8 - bytes..]);
+        self
+    }
+
+    fn image_length(&mut self, length: usize) -> &mut Self {
+        self.put(b'L', length, 3)
+    }
+
+    fn poke(&mut self, offset: usize, value: u8) -> &mut Self {
+        self.put(b'P', offset, 3).0.push(value);
+        self
+    }
+
+    fn output(&mut self, length: usize, fill: u8) -> &mut Self {
+        self.put(b'O', length, 2).0.push(fill);
+        self
+    }
+
+    fn fresh(&mut self, address: u8) -> &mut Self {
+        self.put(b'F', usize::from(address), 1)
+    }
+
+    fn counted(&mut self, letter: u8, bytes: &[u8]) -> &mut Self {
+        self.put(letter, bytes.len(), 2).0.extend(bytes);
+        self
+    }
+
+    fn serve(&mut self, frame: &[u8]) -> &mut Self {
+        self.counted(b'S', frame)
+    }
+
+    fn take_apart(&mut self, frame: &[u8]) -> &mut Self {
+        self.counted(b'T', frame)
+    }
+
+    fn build(&mut self, contents: &[u8]) -> &mut Self {
+        self.counted(b'B', contents)
+    }
+
+    fn held(&mut self, table: u32) -> &mut Self {
+        self.put(b'H', table as usize, 4)
+    }
+
+    /// Shows the whole image buffer, with what lies past a right image.
+    fn show_all(&mut self) -> &mut Self {
+        self.image_length(24_000).fresh(1)
+    }
+}
+
+/// A script and what it is for.
+pub fn script(seed: u64, number: usize) -> (String, Vec<u8>) {
+    // Kept apart from the desk streams of the same seed.
+    let mut rng = Rng::new(seed, 1 << 32 | number as u64);
+    if let Some((name, make)) = CASES.get(number) {
+        return (name.to_string(), make(&mut rng).0);
+    }
+    match broken(number - CASES.len()) {
+        Some(script) => ("broken record".to_string(), script.0),
+        None => ("calls by chance".to_string(), by_chance(&mut rng).0),
+    }
+}
+
+fn other_addresses(_: &mut Rng) -> Script {
+    let mut script = Script::default();
+    for address in [1, 0xCE, 2, 0x32, 127, 128, 254, 255] {
+        script.fresh(address).held(1);
+        for asked in [address, address ^ 1, 0, 1, 255] {
+            script.output(269, 0xA5).serve(&ask(asked, 50, &[]));
+            script.serve(&ask(asked, 51, &[address]));
+        }
+        script.serve(&ask(address, 60, &[18, 11]));
+        script.serve(&ask(address, 53, &[]));
+    }
+    script
+        .serve(b":CE3200\r\n")
+        .fresh(0xCE)
+        .serve(b":CE3200\r\n");
+    script
+}
+
+/// All orders of a wrong length and address 0, over a buffer of old bytes.
+fn fresh_images(rng: &mut Rng) -> Script {
+    let mut script = Script::default();
+    for length in [0, 1, 23_752, 23_753, 23_754, 24_000, 65_535, 0xFF_FFFF] {
+        for address in [0, 1, 0xCE, 255] {
+            for _ in 0..20 {
+                script.poke(rng.below(24_000), rng.byte());
+            }
+            script.image_length(length).fresh(address);
+            script.serve(&ask(address, 50, &[])).held(1);
+        }
+    }
+    script.poke(24_000, 7).poke(0xFF_FFFF, 7).show_all();
+    script
+}
+
+/// A good image that is cut short or goes on too long.
+fn image_lengths(_: &mut Rng) -> Script {
+    let mut script = Script::default();
+    script.fresh(1);
+    for length in [0, 5, 6, 23_752, 23_753, 23_754, 24_000, 23_753] {
+        script.image_length(length);
+        script.serve(&ask(1, 51, &[0x5A])).held(1);
+        script.serve(&ask(1, 60, &[18, 11])).held(18);
+    }
+    script.show_all();
+    script
+}
+
+/// Changes a byte of a fresh image, asks, puts the byte back, asks again.
+fn spoil(script: &mut Script, offset: usize, good: u8, bad: u8) {
+    script.poke(offset, bad);
+    script.serve(&ask(1, 51, &[bad])).held(1).held(0);
+    script.poke(offset, good);
+    script.serve(&ask(1, 50, &[])).held(11);
+}
+
+fn spoiled_head(_: &mut Rng) -> Script {
+    let mut script = Script::default();
+    script.fresh(1);
+    for (offset, good) in [b'I', b'Z', b'K', 0, 1, 1].into_iter().enumerate() {
+        for bad in [0, 1, 2, b'i', b'I', b'Z', b'K', 128, 255] {
+            spoil(&mut script, offset, good, bad);
+        }
+    }
+    script.show_all();
+    script
+}
+
+fn spoiled_counts(_: &mut Rng) -> Script {
+    let mut script = Script::default();
+    script.fresh(1);
+    for table in 0..8 {
+        for count in [1, 21, 22, 255] {
+            spoil(&mut script, ERRORS + 64 * table, 0, count);
+            // The byte before and the byte after are not judged.
+            script.poke(ERRORS + 64 * table - 1, count);
+            script.poke(ERRORS + 64 * table + 1, count);
+        }
+    }
+    script.serve(&ask(1, 55, &[7])).serve(&ask(1, 64, &[8]));
+    script.show_all();
+    script
+}
+
+fn spoiled_words(_: &mut Rng) -> Script {
+    let mut script = Script::default();
+    script.fresh(1);
+    for table in 0..16 {
+        let high = WORDS + 2 * table;
+        script.poke(high + 1, 255);
+        for value in [7, 8, 128, 255] {
+            spoil(&mut script, high, 0, value);
+        }
+    }
+    script.serve(&ask(1, 78, &[])).serve(&ask(1, 54, &[0]));
+    script.show_all();
+    script
+}
+
+/// Bytes no write could leave there come back as they are.
+fn unjudged_bytes(rng: &mut Rng) -> Script {
+    let mut script = Script::default();
+    script.fresh(1);
+    let mut places: Vec<usize> = (6..WORDS).collect();
+    for channel in [0, 3, 7] {
+        places.extend((0..83).map(|byte| CONSTANTS + 83 * channel + byte));
+    }
+    for table in [0, 4, 7] {
+        places.extend((1..64).map(|byte| ERRORS + 64 * table + byte));
+    }
+    for table in [0, 1, 7, 8, 9, 15] {
+        places.extend((0..60).map(|_| TABLES + 1408 * table + rng.below(1408)));
+    }
+    for place in places {
+        script.poke(place, rng.byte());
+    }
+    for (table, count) in [(0, 0), (4, 21), (7, 9)] {
+        script.poke(ERRORS + 64 * table, count);
+    }
+    look_everywhere(&mut script);
+    script.show_all();
+    script
+}
+
+/// Every reading command on every item.
+fn look_everywhere(script: &mut Script) {
+    script.serve(&ask(1, 50, &[])).serve(&ask(1, 78, &[]));
+    for item in 0..=8 {
+        for command in [54, 55, 63, 64] {
+            script.serve(&ask(1, command, &[item]));
+        }
+    }
+    for table in (1..=8).chain(11..=18) {
+        script.serve(&ask(1, 61, &[table]));
+        script.serve(&ask(1, 60, &[table, 1 + table % 11]));
+        script.held(u32::from(table));
+    }
+}
+
+fn serve_outputs(rng: &mut Rng) -> Script {
+    let mut script = Script::default();
+    script.fresh(1);
+    for length in [0, 1, 9, 131, 132, 268, 269, 270, 399, 400, 401, 65_535] {
+        for frame in [
+            ask(1, 51, &[length as u8]),
+            ask(1, 50, &[]),
+            ask(1, 59, &part(rng, 3, 2)),
+            ask(1, 60, &[3, 2]),
+            ask(2, 50, &[]),
+            b":".to_vec(),
+            Vec::new(),
+        ] {
+            script.output(length, rng.byte()).serve(&frame);
+        }
+    }
+    script.held(3).show_all();
+    script
+}
+
+fn take_apart_outputs(rng: &mut Rng) -> Script {
+    let mut script = Script::default();
+    for length in [0, 1, 2, 130, 131, 132, 133, 268, 269, 400] {
+        for count in [0, 1, 2, 3, 131, 132, 133] {
+            script.output(length, rng.byte());
+            script.take_apart(&frame(&rng.bytes(count)));
+            script.take_apart(b":0132CE\r\n").take_apart(b":0132cD\r\n");
+            script.take_apart(b";0132CD\r\n").take_apart(b"");
+        }
+    }
+    script
+}
+
+/// Contents of every length around the rule, with room just enough, room
+/// one byte short, and none.
+fn build_outputs(rng: &mut Rng) -> Script {
+    let mut script = Script::default();
+    for count in 0..=136 {
+        let contents = rng.bytes(count);
+        for length in [2 * count + 4, 2 * count + 5] {
+            script.output(length, rng.byte()).build(&contents);
+        }
+    }
+    for (count, length) in [(0, 0), (1, 0), (2, 0), (132, 0), (133, 0), (300, 400)] {
+        script.output(length, 1).build(&rng.bytes(count));
+    }
+    // Sums that come to 0 and to all ones, and digits on both sides of 9.
+    for contents in [[0xCE, 0x32], [0, 0], [128, 128], [255, 0], [0x9A, 0xA9]] {
+        script.output(400, 0).build(&contents);
+    }
+    script
+}
+
+/// Frames of every length up to 280: good ones, and digits by chance.
+fn take_apart_lengths(rng: &mut Rng) -> Script {
+    let mut script = Script::default();
+    script.output(400, 0x33);
+    for count in 0..=140 {
+        script.take_apart(&frame(&rng.bytes(count)));
+    }
+    for length in 0..=24 {
+        let digits = (0..length).map(|_| rng.pick(b"0123456789ABCDEFa@:"));
+        let text = [b":".to_vec(), digits.collect(), b"\r\n".to_vec()].concat();
+        script.take_apart(&text);
+        script.take_apart(&text[1..]).take_apart(&text[..length]);
+    }
+    script
+}
+
+/// Starts with the last check and adds an earlier fault to it each time, so
+/// that the number must fall from 11 to 1.
+fn fault_ladder(rng: &mut Rng) -> Script {
+    let mut script = Script::default();
+    script.fresh(1);
+    let mut data = constants(rng, 0);
+    data[4] = 0;
+    script.serve(&ask(1, 53, &data));
+    data[0] = 8;
+    script.serve(&ask(1, 53, &data));
+    data.push(0);
+    script.serve(&ask(1, 53, &data));
+    script.serve(&ask(1, 52, &data));
+    let mut frame = ask(2, 52, &data);
+    script.serve(&frame).take_apart(&frame);
+    let last = frame.len() - 3; // low half of the checksum
+    frame[last] = if frame[last] == b'0' { b'1' } else { b'0' };
+    script.serve(&frame).take_apart(&frame);
+    frame[1] = b'a';
+    script.serve(&frame).take_apart(&frame);
+    frame[0] = b'0';
+    script.serve(&frame).take_apart(&frame);
+    frame.push(b'\n');
+    script.serve(&frame).take_apart(&frame);
+    script.output(268, 9).serve(&frame).take_apart(&frame);
+    script.output(131, 9).serve(&frame).take_apart(&frame);
+    script.poke(5, 0).serve(&frame).held(9).held(1);
+    // An error table with a bad number, a bad count and falling rows.
+    script.fresh(1).output(269, 0);
+    for (number, count) in [(1, 2), (9, 2), (1, 3), (0, 0)] {
+        script.serve(&ask(1, 62, &[number, count, 9, 0, 0, 8, 0, 0]));
+        script.serve(&ask(1, 62, &[number, count, 9, 0, 0, 8, 0]));
+    }
+    script
+}
+
+/// Each of the 2,048 words a usable image may have, and some it may not.
+fn every_word(_: &mut Rng) -> Script {
+    let mut script = Script::default();
+    script.fresh(1);
+    for word in (0..2048u16).chain([2048, 4095, 4096, 32_767, 65_535]) {
+        let [high, low] = word.to_be_bytes();
+        let table = word % 16;
+        let place = WORDS + 2 * usize::from(table);
+        script.poke(place, high).poke(place + 1, low);
+        script.held(u32::from(if table < 8 { table + 1 } else { table + 3 }));
+    }
+    script
+}
+
+/// Numbers that are right only if their upper bytes are dropped, too.
+fn table_numbers(rng: &mut Rng) -> Script {
+    let mut script = Script::default();
+    script.held(1).fresh(1);
+    for (table, number) in [(2, 1), (12, 1), (12, 2), (8, 3), (11, 1), (18, 11)] {
+        script.serve(&ask(1, 59, &part(rng, table, number)));
+    }
+    for base in [0, 1 << 8, 1 << 16, 1 << 24, 1 << 31, 0xFFFF_FF00] {
+        for table in 0..=20 {
+            script.held(base + table);
+        }
+        script.held(base + 255);
+    }
+    script
+}
+
+fn parts_with_gaps(rng: &mut Rng) -> Script {
+    let mut script = Script::default();
+    script.fresh(1);
+    let orders: [&[u8]; 4] = [
+        &[1, 3, 5, 2, 2, 4, 11, 10, 9, 8, 7, 6, 6],
+        &[11, 11, 10, 1, 2, 3, 0, 12],
+        &[2, 1, 1],
+        &[1, 2, 3, 4, 5, 6, 7, 8, 9, 10],
+    ];
+    for (table, order) in [2, 12, 8, 11].into_iter().zip(orders) {
+        for &number in order {
+            script.serve(&ask(1, 59, &part(rng, table, number)));
+            for look in [1, 2, 3, 8, 11, 12, 13, 18] {
+                script.held(look);
+            }
+        }
+    }
+    script.serve(&ask(1, 61, &[2])).show_all();
+    script
+}
+
+/// A write that is taken and one that is refused for each kind of cell, with
+/// the image shown after each.
+fn each_cell(rng: &mut Rng) -> Script {
+    let mut script = Script::default();
+    script.fresh(1);
+    for byte in [0x0F, 0xF0] {
+        script.serve(&ask(1, 51, &[byte])).serve(&ask(1, 50, &[]));
+        script.serve(&ask(1, 51, &[byte, byte]));
+    }
+    for mode in [255, 1, 0, 254, 255] {
+        script.serve(&ask(1, 76, &[mode]));
+    }
+    for command in COMMANDS {
+        script.serve(&ask(1, command, &[1; 6])); // no command has this length
+    }
+    let now = clock(rng);
+    script
+        .serve(&ask(1, 77, &now))
+        .serve(&ask(1, 77, &now[1..]));
+    for item in 0..=9 {
+        script.serve(&ask(1, 53, &constants(rng, item)));
+        script.serve(&ask(1, 62, &errors(rng, item, 21)));
+        script.serve(&ask(1, 62, &errors(rng, item, 20 - item)));
+    }
+    for table in 0..=19 {
+        script.serve(&ask(1, 59, &part(rng, table, 1 + table % 11)));
+        script.serve(&ask(1, 59, &part(rng, table, 11)));
+    }
+    look_everywhere(&mut script);
+    script.show_all();
+    script
+}
+
+/// One call whose frame brings the script to this size.
+fn filled(size: usize) -> Script {
+    let mut script = Script::default();
+    script.fresh(1).output(400, 7).held(1);
+    let frame = size - script.0.len() - 3;
+    script.serve(&vec![b'0'; frame]);
+    script
+}
+
+/// The limit falls between two records, so the second is never seen.
+fn records_past_end(_: &mut Rng) -> Script {
+    let mut script = filled(SCRIPT_MAX);
+    script.held(1).fresh(1).0.push(b'?');
+    script
+}
+
+/// Each kind of record as a letter alone, then one byte short, then letters
+/// that begin no record.
+fn broken(number: usize) -> Option<Script> {
+    let records: [&[u8]; 8] = [
+        b"L\x00\x5C\xC9",
+        b"P\x00\x00\x06\x01",
+        b"O\x01\x0D\x01",
+        b"F\x01",
+        b"S\x00\x09:0132CD\r\n",
+        b"T\x00\x09:0132CD\r\n",
+        b"B\x00\x02\x01\x32",
+        b"H\x00\x00\x00\x01",
+    ];
+    let unknown: [&[u8]; 4] = [b"?", b"s\x00\x00", b"\x00", b"\xFF\n"];
+    let end = match number {
+        0..=7 => &records[number][..1],
+        8..=15 => &records[number - 8][..records[number - 8].len() - 1],
+        _ => unknown.get(number - 16).copied()?,
+    };
+    let mut script = Script::default();
+    script.fresh(1).serve(b":0132CD\r\n").0.extend(end);
+    if number >= 16 {
+        script.held(1); // must not be reached
+    }
+    Some(script)
+}
+
+/// Sessions and other calls on an image with old bytes in it.
+fn by_chance(rng: &mut Rng) -> Script {
+    let mut script = Script::default();
+    let address = rng.pick(&[1, 1, 0xCE, 255, 0x3A, 0x80]);
+    script.fresh(address);
+    old_bytes(&mut script, rng);
+    for _ in 0..10 + rng.below(50) {
+        match rng.below(10) {
+            0 => script.output(rng.pick(&[0, 131, 132, 268, 269, 270, 400]), rng.byte()),
+            1 => script.held(rng.below(22) as u32 + rng.pick(&[0, 0, 0, 256])),
+            2 => other_call(&mut script, rng),
+            3 => unusable_for_a_while(&mut script, rng, address),
+            _ => serve_session(&mut script, rng, address),
+        };
+        if rng.percent(60) {
+            script.output(269, rng.byte());
+        }
+    }
+    script.show_all();
+    if rng.percent(10) {
+        script.0.truncate(script.0.len() - 1);
+    }
+    script
+}
+
+/// Fills an image in part, so that it stays usable.
+fn old_bytes(script: &mut Script, rng: &mut Rng) {
+    for _ in 0..rng.below(200) {
+        let places = [(6, 11), (CONSTANTS, 664), (ERRORS, 512), (TABLES, 22_528)];
+        let (first, count) = rng.pick(&places);
+        script.poke(first + rng.below(count), rng.byte());
+    }
+    for table in 0..8 {
+        script.poke(ERRORS + 64 * table, rng.between(0, 21));
+    }
+    for table in 0..16 {
+        let word = WORDS + 2 * table;
+        script
+            .poke(word, rng.between(0, 7))
+            .poke(word + 1, rng.byte());
+    }
+}
+
+fn serve_session<'a>(script: &'a mut Script, rng: &mut Rng, address: u8) -> &'a mut Script {
+    for contents in session(rng, address) {
+        script.serve(&piece(rng, &contents));
+        if rng.percent(10) {
+            script.held(rng.below(20) as u32);
+        }
+    }
+    script
+}
+
+fn other_call<'a>(script: &'a mut Script, rng: &mut Rng) -> &'a mut Script {
+    let count = match rng.below(3) {
+        0 => rng.below(140),
+        _ => 2 + rng.below(8),
+    };
+    let contents = rng.bytes(count);
+    let short = 2 * contents.len() + rng.below(10);
+    match rng.below(3) {
+        0 => script.build(&contents),
+        1 => script.output(short, rng.byte()).build(&contents),
+        _ if count == 0 => script.take_apart(&contents),
+        _ => script.take_apart(&piece(rng, &contents)),
+    }
+}
+
+fn unusable_for_a_while<'a>(script: &'a mut Script, rng: &mut Rng, address: u8) -> &'a mut Script {
+    match rng.below(4) {
+        0 => script.image_length(rng.pick(&[0, 23_752, 23_754, 24_000])),
+        1 => script.poke(rng.below(6), rng.byte()),
+        2 => script.poke(WORDS + 2 * rng.below(16), rng.between(6, 9)),
+        _ => script.poke(ERRORS + 64 * rng.below(8), rng.between(20, 23)),
+    };
+    serve_session(script, rng, address);
+    script.held(1).image_length(IMAGE_BYTES);
+    script
+        .fresh(rng.pick(&[address, address, 0]))
+        .fresh(address)
+}

@@ -1,0 +1,427 @@
+//! The rows and rules the block is held to, one by one.
+
+use crate::block::{build, fresh, held_parts, serve, take_apart, Refusal, IMAGE_BYTES};
+use crate::streams::{ask, constants, errors, frame, part, Rng, FIELDS};
+use crate::{desk, probe};
+
+fn image_at(address: u8) -> Vec<u8> {
+    let mut image = vec![0; IMAGE_BYTES];
+    fresh(&mut image, address).expect("a right image");
+    image
+}
+
+/// Serves a frame; gives the number and the reply up to its line end.
+/// Checks on the way that nothing is touched that should not be.
+fn put(image: &mut [u8], frame: &[u8]) -> (u8, String) {
+    let before = image.to_vec();
+    let mut output = [0x55; 300];
+    match serve(image, frame, &mut output) {
+        Ok(length) => {
+            assert_eq!(&output[length - 2..length], b"\r\n");
+            assert!(output[length..].iter().all(|&byte| byte == 0x55));
+            (
+                0,
+                String::from_utf8_lossy(&output[..length - 2]).into_owned(),
+            )
+        }
+        Err(refusal) => {
+            assert!(image == before, "a refusal changed the image");
+            assert_eq!(output, [0x55; 300], "a refusal changed the output");
+            (refusal.number(), String::new())
+        }
+    }
+}
+
+/// Serves one row of the paper, given without its ends.
+fn row(image: &mut [u8], text: &str) -> (u8, String) {
+    put(image, format!("{text}\r\n").as_bytes())
+}
+
+fn number(image: &mut [u8], command: u8, data: &[u8]) -> u8 {
+    put(image, &ask(1, command, data)).0
+}
+
+fn done(reply: &str) -> (u8, String) {
+    (0, reply.to_string())
+}
+
+fn refused(number: u8) -> (u8, String) {
+    (number, String::new())
+}
+
+#[test]
+fn rows_on_a_fresh_image() {
+    for (text, outcome) in [
+        (":0132CD", done(":013200CD")),
+        (":01330FBD", done(":01330FBD")),
+        (":0132CE", refused(6)),
+        (":0132cD", refused(5)),
+        (":0232CC", refused(7)),
+        (":0153AC", refused(8)),
+        (":013608C1", refused(10)),
+        (":013C0901B9", refused(10)),
+        (":013D01C1", done(":013D010000C1")),
+        (":013E0101140005A6", done(":013E01C0")),
+        (":014CFFB4", done(":014CFFB4")),
+        (":014C01B2", refused(11)),
+        (":013C0B0CAC", refused(10)),
+    ] {
+        assert_eq!(row(&mut image_at(1), text), outcome, "{text}");
+    }
+}
+
+#[test]
+fn second_row_is_stored() {
+    let mut image = image_at(1);
+    row(&mut image, ":01330FBD");
+    assert_eq!(image[6], 0x0F);
+    image[6] = 0;
+    assert!(image == image_at(1));
+}
+
+#[test]
+fn rows_after_an_error_table() {
+    let mut image = image_at(1);
+    row(&mut image, ":013E0101140005A6");
+    assert_eq!(row(&mut image, ":013F01BF"), done(":013F0101140005A5"));
+    assert_eq!(row(&mut image, ":014001BE"), done(":014001001AA4"));
+}
+
+#[test]
+fn longest_channel_gives_a_full_body() {
+    let (number, reply) = row(&mut image_at(1), ":013607C2");
+    assert_eq!((number, reply.len()), (0, 1 + 2 * 87));
+    assert!(reply.starts_with(":01360700"));
+}
+
+#[test]
+fn row_at_another_address() {
+    assert_eq!(row(&mut image_at(0xCE), ":CE3200"), done(":CE320000"));
+    assert_eq!(row(&mut image_at(1), ":CE3200"), refused(7));
+}
+
+#[test]
+fn error_rows_by_temperature() {
+    for (first, second, outcome) in [
+        (0xFF, 0x00, 0),
+        (0x00, 0xFF, 11),
+        (0x14, 0x14, 11),
+        (0x80, 0x7F, 0),
+        (0x7F, 0x80, 11),
+    ] {
+        let data = [1, 2, first, 0, 1, second, 0, 2];
+        assert_eq!(number(&mut image_at(1), 62, &data), outcome);
+    }
+}
+
+#[test]
+fn desk_prints_the_sample() {
+    let lines = desk::lines(b":0132CD\r\n:01330FBD\r\n:0132CE\r\n");
+    assert_eq!(lines, ["0 :013200CD", "0 :01330FBD", "6"]);
+}
+
+#[test]
+fn desk_takes_any_input() {
+    assert!(desk::lines(b"").is_empty());
+    assert_eq!(desk::lines(b"\n"), ["3"]);
+    assert_eq!(desk::lines(b":0132CD\r\n\xFF"), ["0 :013200CD", "3"]);
+    assert_eq!(desk::lines(&[b'\n'; 65_536]).len(), 65_536);
+    assert_eq!(desk::lines(&[b'0'; 65_536]), ["3"]);
+    assert_eq!(desk::lines(&[b'\n'; 65_537]), ["too long"]);
+}
+
+#[test]
+fn building_and_taking_apart_undo_each_other() {
+    let mut rng = Rng::new(1, 1);
+    for count in 2..=132 {
+        let contents = rng.bytes(count);
+        let mut built = vec![9; 2 * count + 5];
+        assert_eq!(build(&contents, &mut built), Ok(2 * count + 5));
+        assert_eq!(built, frame(&contents));
+        let mut output = [9; 133];
+        assert_eq!(take_apart(&built, &mut output), Ok(count));
+        assert_eq!(output[..count], contents);
+        assert!(output[count..].iter().all(|&byte| byte == 9));
+    }
+}
+
+#[test]
+fn halves_are_sent_as_published() {
+    let mut output = [0; 9];
+    assert_eq!(build(&[0x4C, 0], &mut output), Ok(9));
+    assert_eq!(output[1..3], [0x34, 0x43]);
+}
+
+#[test]
+fn building_checks_its_contents_first() {
+    for (count, room, outcome) in [
+        (1, 0, Err(Refusal::Length)),
+        (133, 0, Err(Refusal::Length)),
+        (133, 400, Err(Refusal::Length)),
+        (2, 8, Err(Refusal::Output)),
+        (132, 268, Err(Refusal::Output)),
+        (132, 269, Ok(269)),
+    ] {
+        assert_eq!(build(&vec![0; count], &mut vec![0; room]), outcome);
+    }
+}
+
+#[test]
+fn taking_apart_refuses_in_order() {
+    for (text, outcome) in [
+        (":0132CD\r", Err(Refusal::Length)),
+        (";0132zz\rA", Err(Refusal::Ends)),
+        (":0132zz\r\n", Err(Refusal::Digit)),
+        (":0132@E\r\n", Err(Refusal::Digit)),
+        (":0132CE\r\n", Err(Refusal::Checksum)),
+        (":FF9968\r\n", Ok(2)),
+    ] {
+        assert_eq!(take_apart(text.as_bytes(), &mut [0; 132]), outcome);
+        let short = take_apart(text.as_bytes(), &mut [0; 131]);
+        assert_eq!(short, Err(Refusal::Output));
+    }
+}
+
+#[test]
+fn frame_lengths_have_limits() {
+    let mut rng = Rng::new(1, 2);
+    for (count, outcome) in [(1, 3), (2, 8), (132, 8), (133, 3)] {
+        let mut contents = rng.bytes(count);
+        contents[0] = 1;
+        if count > 1 {
+            contents[1] = 99;
+        }
+        assert_eq!(put(&mut image_at(1), &frame(&contents)).0, outcome);
+    }
+}
+
+#[test]
+fn serving_refuses_in_order() {
+    let mut image = image_at(1);
+    let good = b":0132CD\r\n";
+    assert_eq!(serve(&mut image, good, &mut [0; 268]), Err(Refusal::Output));
+    assert_eq!(serve(&mut image, b"", &mut [0; 268]), Err(Refusal::Output));
+    image[5] = 0;
+    assert_eq!(serve(&mut image, b"", &mut [0; 0]), Err(Refusal::Image));
+}
+
+#[test]
+fn fresh_image_has_its_length_and_its_address() {
+    for (length, address, outcome) in [
+        (IMAGE_BYTES - 1, 0, Err(Refusal::Image)),
+        (IMAGE_BYTES + 1, 1, Err(Refusal::Image)),
+        (IMAGE_BYTES, 0, Err(Refusal::Value)),
+        (IMAGE_BYTES, 255, Ok(())),
+    ] {
+        let mut image = vec![7; length];
+        assert_eq!(fresh(&mut image, address), outcome);
+        if outcome.is_err() {
+            assert!(image.iter().all(|&byte| byte == 7));
+        }
+    }
+    let image = image_at(0xCE);
+    assert_eq!(image[..6], *b"IZK\x00\x01\xCE");
+    assert!(image[6..].iter().all(|&byte| byte == 0));
+}
+
+#[test]
+fn only_some_bytes_make_an_image_unusable() {
+    let mut judged: Vec<usize> = (0..5).collect();
+    judged.extend((0..16).map(|table| 17 + 2 * table));
+    judged.extend((0..8).map(|table| 713 + 64 * table));
+    let good = image_at(1);
+    for offset in 0..IMAGE_BYTES {
+        let mut image = good.clone();
+        image[offset] ^= 0xE8;
+        let usable = held_parts(&image, 1).is_ok();
+        assert_eq!(usable, !judged.contains(&offset), "offset {offset}");
+    }
+    for (offset, most) in [(17, 7), (713 + 64 * 7, 21)] {
+        let mut image = good.clone();
+        image[offset] = most;
+        assert!(held_parts(&image, 1).is_ok());
+        image[offset] = most + 1;
+        assert_eq!(held_parts(&image, 1), Err(Refusal::Image));
+        assert_eq!(held_parts(&image, 0), Err(Refusal::Image));
+    }
+}
+
+#[test]
+fn parts_are_counted_once() {
+    let mut rng = Rng::new(1, 3);
+    let mut image = image_at(1);
+    assert_eq!(held_parts(&image, 12), Ok((0, 1)));
+    for (written, held) in [
+        (1, (1, 2)),
+        (1, (1, 2)),
+        (3, (2, 2)),
+        (11, (3, 2)),
+        (2, (4, 4)),
+    ] {
+        assert_eq!(number(&mut image, 59, &part(&mut rng, 12, written)), 0);
+        assert_eq!(held_parts(&image, 12), Ok(held));
+        assert_eq!(held_parts(&image, 2), Ok((0, 1)));
+    }
+    for written in 4..=10 {
+        number(&mut image, 59, &part(&mut rng, 12, written));
+    }
+    assert_eq!(held_parts(&image, 12), Ok((11, 0)));
+    assert_eq!(image[17 + 2 * 9..][..2], [0x07, 0xFF]);
+}
+
+#[test]
+fn table_numbers_are_not_cut_short() {
+    let image = image_at(1);
+    for table in [0, 9, 10, 19, 258, 268, 65_538, 1 << 24 | 2, u32::MAX] {
+        assert_eq!(held_parts(&image, table), Err(Refusal::Item));
+    }
+}
+
+#[test]
+fn tables_lie_where_they_should() {
+    let mut rng = Rng::new(1, 4);
+    for (table, number_of_part, offset) in [
+        (1, 1, 1225),
+        (2, 1, 1225 + 1408),
+        (8, 11, 1225 + 7 * 1408 + 1280),
+        (11, 1, 1225 + 8 * 1408),
+        (12, 1, 1225 + 9 * 1408),
+        (18, 11, IMAGE_BYTES - 128),
+    ] {
+        let data = part(&mut rng, table, number_of_part);
+        let mut image = image_at(1);
+        assert_eq!(number(&mut image, 59, &data), 0);
+        assert_eq!(image[offset..offset + 128], data[2..]);
+    }
+}
+
+#[test]
+fn signature_of_a_full_table_is_a_remainder() {
+    let mut image = image_at(1);
+    for number_of_part in 1..=11 {
+        let data = [vec![5, number_of_part], vec![255; 128]].concat();
+        assert_eq!(number(&mut image, 59, &data), 0);
+    }
+    // 1,408 times 255 is 359,040, five times 65,536 and 31,360.
+    let (_, reply) = put(&mut image, &ask(1, 61, &[5]));
+    assert!(reply.starts_with(":013D057A80"));
+}
+
+#[test]
+fn constants_keep_their_reserve_clear() {
+    let mut rng = Rng::new(1, 5);
+    let field = |byte| {
+        FIELDS
+            .iter()
+            .any(|&(first, last)| (first..=last).contains(&byte))
+    };
+    for byte in 4..=86 {
+        let mut data = constants(&mut rng, 7);
+        data[byte - 3] = if byte == 7 { 13 } else { 200 };
+        let outcome = if field(byte) { 0 } else { 11 };
+        assert_eq!(number(&mut image_at(1), 53, &data), outcome, "byte {byte}");
+    }
+    for (gas, outcome) in [(0, 11), (1, 0), (13, 0), (14, 11)] {
+        let mut data = constants(&mut rng, 0);
+        data[4] = gas;
+        assert_eq!(number(&mut image_at(1), 53, &data), outcome);
+    }
+}
+
+#[test]
+fn constants_lie_where_they_should() {
+    let mut rng = Rng::new(1, 6);
+    for channel in 0..8u8 {
+        let data = constants(&mut rng, channel);
+        let mut image = image_at(1);
+        assert_eq!(number(&mut image, 53, &data), 0);
+        let offset = 49 + 83 * usize::from(channel);
+        assert_eq!(image[offset..offset + 83], data[1..]);
+        assert_eq!(put(&mut image, &ask(1, 54, &[channel])), {
+            let reply = String::from_utf8_lossy(&ask(1, 54, &data)).into_owned();
+            done(reply.trim_end())
+        });
+    }
+}
+
+#[test]
+fn error_tables_refuse_in_order() {
+    for (data, outcome) in [
+        (vec![1], 9),
+        (vec![9, 0], 9),
+        (vec![9, 9, 5, 0], 9),
+        (errors(&mut Rng::new(1, 7), 9, 22), 9),
+        (vec![0, 1, 5, 0, 0], 10),
+        (vec![9, 1, 5, 0, 0], 10),
+        (vec![1, 2, 5, 0, 0], 10),
+        (vec![1, 1, 5, 0, 0, 4, 0, 0], 10),
+        (vec![1, 2, 5, 0, 0, 4, 0, 0], 11),
+        (errors(&mut Rng::new(1, 8), 8, 21), 0),
+    ] {
+        assert_eq!(number(&mut image_at(1), 62, &data), outcome, "{data:?}");
+    }
+}
+
+#[test]
+fn shorter_error_table_leaves_no_old_rows() {
+    let mut rng = Rng::new(1, 9);
+    let mut image = image_at(1);
+    number(&mut image, 62, &errors(&mut rng, 8, 21));
+    assert_eq!(number(&mut image, 62, &[8, 1, 0x14, 0, 5]), 0);
+    assert_eq!(image[713 + 7 * 64..][..5], [1, 0x14, 0, 5, 0]);
+    assert!(image[713 + 7 * 64 + 4..1225].iter().all(|&byte| byte == 0));
+}
+
+#[test]
+fn clock_and_mode_lie_where_they_should() {
+    let mut image = image_at(1);
+    let clock = [59, 58, 23, 7, 31, 2, 99, 0, 0];
+    assert_eq!(number(&mut image, 77, &clock), 0);
+    assert_eq!(number(&mut image, 76, &[255]), 0);
+    assert_eq!(image[7], 255);
+    assert_eq!(image[8..17], clock);
+    for (place, value) in [
+        (0, 60),
+        (2, 24),
+        (3, 0),
+        (3, 8),
+        (4, 0),
+        (5, 13),
+        (6, 100),
+        (8, 1),
+    ] {
+        let mut bad = clock;
+        bad[place] = value;
+        assert_eq!(number(&mut image, 77, &bad), 11);
+    }
+}
+
+#[test]
+fn stored_bytes_come_back_unjudged() {
+    let mut image = image_at(1);
+    image[8..17].fill(0xEE);
+    let reply = format!(":014E{}53", "EE".repeat(9));
+    assert_eq!(put(&mut image, &ask(1, 78, &[])), done(&reply));
+    assert_eq!(put(&mut image, &ask(1, 63, &[1])), done(":013F0100BF"));
+}
+
+#[test]
+fn probe_spells_its_answers() {
+    let lines = probe::lines(
+        b"L\x00\x00\x01P\x00\x00\x00\x05F\x01H\x00\x00\x00\x01O\x00\x00\x09T\x00\x00?F",
+    );
+    // The digest of one byte 5 is 257 + 6; that of no byte is 1.
+    assert_eq!(lines, ["F 1 263", "H 1 0 0", "T 2 0 1", "?"]);
+}
+
+#[test]
+fn probe_stops_at_a_record_cut_short() {
+    assert!(probe::lines(b"").is_empty());
+    assert_eq!(probe::lines(b"H\x00\x00\x00"), ["?"]);
+    assert_eq!(probe::lines(b"S\x00\x02a"), ["?"]);
+    let mut long = b"B\xFF\xFD".to_vec();
+    long.resize(65_536, 0);
+    assert_eq!(probe::lines(&long).len(), 1);
+    long.extend(b"H\x00\x00\x00\x01");
+    assert_eq!(probe::lines(&long).len(), 1);
+}

@@ -1,0 +1,308 @@
+//! What desk streams and probe scripts are made of: numbers from a seed,
+//! requests, frames, and damage done to them.
+//!
+//! Frames are written here without the help of `block`, and constants follow
+//! the published list of fields rather than the list of reserve bytes, so a
+//! slip in the model shows up as a request that is refused without need.
+
+use std::collections::BTreeSet;
+
+/// The commands served, in rising order.
+pub const COMMANDS: [u8; 14] = [50, 51, 53, 54, 55, 59, 60, 61, 62, 63, 64, 76, 77, 78];
+
+/// Table numbers at and around the limits.
+pub const TABLES: [u8; 10] = [0, 1, 2, 8, 9, 10, 11, 12, 18, 19];
+/// Part numbers at and around the limits.
+pub const PARTS: [u8; 4] = [0, 1, 11, 12];
+
+/// Body bytes of the constants that carry a field, each span with both ends.
+pub const FIELDS: [(usize, usize); 9] = [
+    (4, 16),
+    (21, 22),
+    (27, 28),
+    (33, 34),
+    (39, 42),
+    (47, 48),
+    (69, 70),
+    (73, 74),
+    (79, 86),
+];
+
+/// Lowest and highest value of each clock byte.
+pub const CLOCK: [(u8, u8); 9] = [
+    (0, 59),
+    (0, 59),
+    (0, 23),
+    (1, 7),
+    (1, 31),
+    (1, 12),
+    (0, 99),
+    (0, 0),
+    (0, 0),
+];
+
+/// A splitmix64 generator.
+pub struct Rng(u64);
+
+impl Rng {
+    /// A generator of its own for each stream of a seed.
+    pub fn new(seed: u64, stream: u64) -> Self {
+        let mut mixer = Rng(seed);
+        Rng(mixer.next() ^ stream.wrapping_mul(0xD6E8_FEB8_6659_FD93))
+    }
+
+    fn next(&mut self) -> u64 {
+        self.0 = self.0.wrapping_add(0x9E37_79B9_7F4A_7C15);
+        let z = (self.0 ^ self.0 >> 30).wrapping_mul(0xBF58_476D_1CE4_E5B9);
+        let z = (z ^ z >> 27).wrapping_mul(0x94D0_49BB_1331_11EB);
+        z ^ z >> 31
+    }
+
+    /// A number below the limit, which must not be 0.
+    pub fn below(&mut self, limit: usize) -> usize {
+        (self.next() % limit as u64) as usize
+    }
+
+    pub fn between(&mut self, low: u8, high: u8) -> u8 {
+        low + self.below(usize::from(high - low) + 1) as u8
+    }
+
+    pub fn byte(&mut self) -> u8 {
+        self.next() as u8
+    }
+
+    pub fn percent(&mut self, chance: usize) -> bool {
+        self.below(100) < chance
+    }
+
+    pub fn pick<T: Copy>(&mut self, choices: &[T]) -> T {
+        choices[self.below(choices.len())]
+    }
+
+    pub fn bytes(&mut self, count: usize) -> Vec<u8> {
+        (0..count).map(|_| self.byte()).collect()
+    }
+}
+
+/// A frame around these contents, whatever their number.
+pub fn frame(contents: &[u8]) -> Vec<u8> {
+    let sum: u32 = contents.iter().map(|&byte| u32::from(byte)).sum();
+    let checksum = (256 - sum % 256) % 256;
+    let mut text = String::from(":");
+    for byte in contents {
+        text.push_str(&format!("{byte:02X}"));
+    }
+    text.push_str(&format!("{checksum:02X}\r\n"));
+    text.into_bytes()
+}
+
+/// A frame from its address, its command and its data.
+pub fn ask(address: u8, command: u8, data: &[u8]) -> Vec<u8> {
+    frame(&contents(address, command, data))
+}
+
+fn contents(address: u8, command: u8, data: &[u8]) -> Vec<u8> {
+    [&[address, command], data].concat()
+}
+
+/// Data of a good command 53.
+pub fn constants(rng: &mut Rng, channel: u8) -> Vec<u8> {
+    let mut body = [0; 87]; // place 0 unused: body bytes count from 1
+    for (first, last) in FIELDS {
+        for byte in &mut body[first..=last] {
+            *byte = rng.byte();
+        }
+    }
+    body[3] = channel;
+    body[7] = rng.between(1, 13);
+    body[3..].to_vec()
+}
+
+/// Data of a command 59; its rows are mostly random, at times all alike.
+pub fn part(rng: &mut Rng, table: u8, part: u8) -> Vec<u8> {
+    let rows = match rng.below(8) {
+        0 => vec![0; 128],
+        1 => vec![255; 128],
+        _ => rng.bytes(128),
+    };
+    [vec![table, part], rows].concat()
+}
+
+/// Data of a good command 62 with `count` rows, of which there may be none
+/// or more than the rule allows.
+pub fn errors(rng: &mut Rng, number: u8, count: u8) -> Vec<u8> {
+    let mut temperatures = BTreeSet::new();
+    while temperatures.len() < usize::from(count) {
+        temperatures.insert(rng.byte() as i8);
+    }
+    let mut data = vec![number, count];
+    for temperature in temperatures {
+        data.extend([temperature as u8, rng.byte(), rng.byte()]);
+    }
+    data
+}
+
+/// Data of a good command 77.
+pub fn clock(rng: &mut Rng) -> Vec<u8> {
+    CLOCK
+        .iter()
+        .map(|&(low, high)| rng.between(low, high))
+        .collect()
+}
+
+fn table_number(rng: &mut Rng) -> u8 {
+    match rng.below(8) {
+        0 => rng.pick(&TABLES),
+        1 => rng.byte(),
+        2..=4 => rng.between(1, 8),
+        _ => rng.between(11, 18),
+    }
+}
+
+fn part_number(rng: &mut Rng) -> u8 {
+    match rng.below(8) {
+        0 => rng.pick(&PARTS),
+        _ => rng.between(1, 11),
+    }
+}
+
+fn channel_number(rng: &mut Rng) -> u8 {
+    match rng.below(10) {
+        0 => rng.byte(),
+        _ => rng.between(0, 8),
+    }
+}
+
+/// Data for any command: most of it good, some of it at or past a limit.
+fn data(rng: &mut Rng, command: u8) -> Vec<u8> {
+    let channel = channel_number(rng);
+    let mut data = match command {
+        50 | 78 => vec![],
+        51 => vec![rng.byte()],
+        53 => constants(rng, channel),
+        59 => {
+            let (table, number) = (table_number(rng), part_number(rng));
+            part(rng, table, number)
+        }
+        60 => vec![table_number(rng), part_number(rng)],
+        61 => vec![table_number(rng)],
+        62 => {
+            let count = rng.between(0, 22);
+            errors(rng, channel, count)
+        }
+        76 => vec![rng.pick(&[0, 255, 0, 255, 1])],
+        77 => clock(rng),
+        _ => vec![channel],
+    };
+    if rng.percent(20) && !data.is_empty() {
+        let place = rng.below(data.len());
+        data[place] = rng.byte();
+    }
+    match rng.below(40) {
+        0 => data.push(rng.byte()),
+        1 => data.truncate(data.len().saturating_sub(1)),
+        _ => {}
+    }
+    data
+}
+
+/// A few requests that belong together: a write, then reads and signatures
+/// of what was written and of what lies beside it.
+pub fn session(rng: &mut Rng, address: u8) -> Vec<Vec<u8>> {
+    let requests = match rng.below(11) {
+        0 => around_constants(rng),
+        1 | 2 => around_part(rng),
+        3 => around_errors(rng),
+        4 => vec![(51, vec![rng.byte()]), (50, vec![])],
+        5 => vec![(77, clock(rng)), (78, vec![])],
+        _ => {
+            let command = match rng.below(12) {
+                0 => rng.byte(),
+                _ => rng.pick(&COMMANDS),
+            };
+            vec![(command, data(rng, command))]
+        }
+    };
+    requests
+        .into_iter()
+        .map(|(command, data)| contents(address, command, &data))
+        .collect()
+}
+
+type Request = (u8, Vec<u8>);
+
+fn around_constants(rng: &mut Rng) -> Vec<Request> {
+    let channel = channel_number(rng);
+    let beside = channel.wrapping_add(rng.pick(&[1, 255]));
+    vec![
+        (53, constants(rng, channel)),
+        (54, vec![channel]),
+        (55, vec![channel]),
+        (54, vec![beside]),
+        (55, vec![beside]),
+    ]
+}
+
+fn around_part(rng: &mut Rng) -> Vec<Request> {
+    let (table, number) = (table_number(rng), part_number(rng));
+    let beside = table.wrapping_add(rng.pick(&[1, 255, 10, 246]));
+    vec![
+        (59, part(rng, table, number)),
+        (60, vec![table, number]),
+        (60, vec![table, number.wrapping_add(rng.pick(&[1, 255]))]),
+        (60, vec![beside, number]),
+        (61, vec![table]),
+        (61, vec![beside]),
+    ]
+}
+
+fn around_errors(rng: &mut Rng) -> Vec<Request> {
+    let number = channel_number(rng);
+    let beside = number.wrapping_add(rng.pick(&[1, 255]));
+    let long = rng.between(1, 21);
+    let short = rng.between(1, long);
+    vec![
+        (62, errors(rng, number, long)),
+        (63, vec![number]),
+        (64, vec![number]),
+        (62, errors(rng, number, short)),
+        (63, vec![number]),
+        (64, vec![number]),
+        (63, vec![beside]),
+        (64, vec![beside]),
+    ]
+}
+
+/// The frame of these contents, about one in seven with a fault of its own.
+pub fn piece(rng: &mut Rng, contents: &[u8]) -> Vec<u8> {
+    match rng.below(35) {
+        0 => {
+            let mut other = contents.to_vec();
+            other[0] = rng.byte();
+            frame(&other)
+        }
+        1..=4 => damage(rng, frame(contents)),
+        _ => frame(contents),
+    }
+}
+
+/// One fault done to a good frame.
+fn damage(rng: &mut Rng, mut frame: Vec<u8>) -> Vec<u8> {
+    let length = frame.len();
+    let inside = 1 + rng.below(length - 3);
+    match rng.below(12) {
+        0 => frame[inside] = rng.byte(),
+        1 => frame[inside] = rng.between(58, 64),
+        2 => frame[inside] = rng.pick(b"abcdef"),
+        3 => frame.make_ascii_lowercase(),
+        4 => frame[inside] = rng.pick(b"0123456789ABCDEF"),
+        5 => frame[length - 3] = rng.pick(b"0123456789ABCDEF"),
+        6 => drop(frame.remove(inside)),
+        7 => frame.insert(inside, b'0'),
+        8 => drop(frame.drain(inside..length - 2)),
+        9 => frame[0] = rng.byte(),
+        10 => frame[length - 2] = rng.byte(),
+        _ => drop(frame.remove(length - 1 - rng.below(2))),
+    }
+    frame
+}
