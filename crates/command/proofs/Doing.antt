@@ -3,17 +3,17 @@
 use mathlib.Core.Path.{_≡_, refl, sym, ap, _∙_}
 use mathlib.Core.Logic.{⊎-elim}
 use mathlib.Core.Bool.{true}
-use mathlib.Core.List.{List, [], _∷_, _++_}
+use mathlib.Core.List.{List, [], _∷_}
 use Prim.Native.Nat.{ℕ, _+_, _-_, _/_, _%_, _≤_, _<_}
 use native.Mathlib.Omega.{arith}
 use types.Run.{OneOf, miss}
 use denote.Enum.Declared.{tagOf}
-use lib.ListN.{length, getD, take, drop, length-append, length-take, length-drop}
+use lib.ListN.{length, getD, take, drop, length-take, length-drop}
 use lib.Seq.{take-all, length-take-le}
 use borrow.Author.Tests.{ltb-true}
 use Rattle.laws.specs.Bytes.{lay, zeros, padded, sumOf, two}
 use Rattle.laws.proofs.Tests.{and-both, never}
-use Rattle.laws.proofs.Bytes.{length-lay, lay-none, lay-trans, part-is}
+use Rattle.laws.proofs.Bytes.{lay-trans, part-is}
 use Rattle.image.proofs.cell.Cell.{the-type}
 use Rattle.image.specs.declared.cell.Cell.{Cell}
 use Rattle.image.specs.declared.cell.Cell.the-variants.{Mask, Mode, Clock, Constants, Errors, Part, Table}
@@ -25,7 +25,6 @@ use Rattle.command.specs.declared.rule.Act.{Act}
 use Rattle.command.specs.declared.rule.Act.the-variants.{Show, Sign, Store}
 use Rattle.command.specs.Act.{touched, bitOf, stored, says}
 use Rattle.command.specs.Fits.{FitStore, Fit, FitAccepted}
-use Rattle.command.specs.Reply.{Lays}
 use Rattle.command.proofs.Stores.{extent-view, size-some}
 use Rattle.command.proofs.Commute.{extent-fits}
 
@@ -104,17 +103,6 @@ module _ {e : ℕ} {a : Act} {d : Cell} {c : List ℕ} (f : FitAccepted e a d c)
 
   pub opening : length (take (2 + e) c) ≡ 2 + e
   opening = length-take-le (2 + e) c (f .echoed)
-
--- one stretch after the other from the start of an output
-module _ (o B : List ℕ) {o₁ : List ℕ} {k₁ : ℕ} (past : k₁ ≡ 0 + length B) (laid : o₁ ≡ lay o 0 B) where
-  pub room-stays : length o₁ ≡ length o
-  room-stays = ap length laid ∙ length-lay o 0 B
-
-  pub and-then : {L o₂ : List ℕ} {k₂ : ℕ} → Lays L k₁ o₁ k₂ o₂ → Lays (B ++ L) 0 o k₂ o₂
-  and-then {L} {o₂} l = record { past = omega (arith, length-append B L); laid = lay-trans o _ o₂ B L 0 _ laid past (l .laid) }
-
-  pub and-no-more : Lays (B ++ []) 0 o k₁ o₁
-  and-no-more = and-then (record { past = omega arith; laid = sym (lay-none _ _) })
 
 -- ---- what is stored
 

@@ -2,7 +2,7 @@ pub mod Naming
 pub mod Filled
 pub mod Fit
 pub mod Numbers
-pub mod Edges
+pub mod Warmth
 pub mod Touches
 pub mod Stores
 pub mod Commute

@@ -22,8 +22,8 @@ use Rattle.command.specs.declared.verdict.Verdict.{Verdict}
 use Rattle.command.specs.declared.verdict.Verdict.the-variants.{Refused, Accepted}
 use Rattle.command.specs.Act.{says}
 use Rattle.command.specs.Fits.{Fit, longest, FitAccepted}
-use Rattle.command.specs.Reply.{replyOf, Lays}
-use Rattle.command.specs.Serve.{recognised, replied, sent, Serves}
+use Rattle.laws.specs.Bytes.{Laid}
+use Rattle.command.specs.Serve.{recognised, replyOf, replied, sent, Serves}
 use Rattle.command.proofs.Fit.{recognised-fits}
 use Rattle.command.proofs.Commute.{extent-fits}
 use Rattle.command.proofs.Doing.{opening}
@@ -54,7 +54,7 @@ module _ {e : ℕ} {a : Act} {d : Cell} {c : List ℕ} (f : FitAccepted e a d c)
 
 -- ---- contents of a frame, laid at the start of a work array
 
-module _ {bytes w w′ : List ℕ} {n : ℕ} (fits : (2 ≤ length bytes) × (length bytes ≤ 132)) (room : 132 ≤ length w) (l : Lays bytes 0 w n w′) where
+module _ {bytes w w′ : List ℕ} {n : ℕ} (fits : (2 ≤ length bytes) × (length bytes ≤ 132)) (room : 132 ≤ length w) (l : Laid 0 n w w′ bytes) where
   pub work-room : n ≤ length w′
   work-room = omega (arith, ap length (l .laid), length-lay w 0 bytes)
 

@@ -75,7 +75,7 @@ module _ (v : Version) (d : Cell) (bs : List ℕ) (fit : FitStore d bs) (m : Lis
       off : (i : ℕ) → In 17 32 i → ¬ In (at d) (length (padded (size d) bs)) i
       off i w a = placed d (fit .cell) .words i (a .0, rw full at (a .1)) w
 
-  word-stored : (j : ℕ) → j < 16 → WordAfter d j (word m j) (word (stored d bs m) j)
+  pub word-stored : (j : ℕ) → j < 16 → WordAfter d j (word m j) (word (stored d bs m) j)
   unfolding stored
   word-stored j l = rw word-laid at (word-after d laid j (fit .cell) enough)
 

@@ -1,5 +1,4 @@
 pub mod Rules
 pub mod Act
 pub mod Fits
-pub mod Reply
 pub mod Serve

@@ -12,6 +12,7 @@ use Rattle.image.specs.declared.cell.Cell.{Cell}
 use Rattle.image.specs.declared.cell.Named.{Named}
 use Rattle.image.specs.declared.cell.Named.the-variants as Named′
 use Rattle.image.specs.Image.{Version}
+use Rattle.command.specs.declared.rule.Act.{Act}
 use Rattle.command.specs.declared.rule.Rule.{Rule}
 use Rattle.command.specs.declared.rule.Found.{Found}
 use Rattle.command.specs.declared.rule.Found.the-variants as Found′
@@ -58,10 +59,13 @@ pub record Outcome : Type 0 where
 abbrev pub refusal : ℕ → List ℕ → Outcome
 refusal n m = record { number = n; reply = []; image = m }
 
--- the reply opens with the request's address, which is the image's, its command and the echo
+-- a reply without its checksum opens with the request's address, which is the image's, its command and the echo
+abbrev pub replyOf : Version → ℕ → Act → Cell → List ℕ → List ℕ → List ℕ
+replyOf v e a d c m = take (2 + e) c ++ says v a d m
+
 abbrev pub done : Version → Verdict → List ℕ → List ℕ → Outcome
 done v (Refused n) c m = refusal n m
-done v (Accepted e a d) c m = record { number = 0; reply = frameOf (take (2 + e) c ++ says v a d m); image = leaves a d c m }
+done v (Accepted e a d) c m = record { number = 0; reply = frameOf (replyOf v e a d c m); image = leaves a d c m }
 
 -- a body, on a usable image
 abbrev pub replied : Version → List ℕ → List ℕ → Outcome

@@ -10,7 +10,8 @@ ghost use Rattle.image.specs.Cell.{size, extent, isCell, isItem};
 ghost use Rattle.image.specs.Image.{first, usable};
 ghost use Rattle.command.specs.Act.{touched, bitOf, stored, says, leaves};
 ghost use Rattle.command.specs.Fits.{FitStore, Fit, FitAccepted};
-ghost use Rattle.command.specs.Reply.{replyOf, Lays};
+ghost use Rattle.laws.specs.Bytes.{Laid};
+ghost use Rattle.command.specs.Serve.{replyOf};
 
 // How many of a cell's bytes count, by its first: of an error table the count and its rows.
 fn extent(cell: Cell, b: u8) -> usize
@@ -25,7 +26,7 @@ fn extent(cell: Cell, b: u8) -> usize
 // At a cursor, a cell's bytes that count.
 fn show(cell: Cell, m: &[u8], reply: &mut [u8], end: Cursor) -> Cursor
     requires { ⌜ (isCell cell ≡ true) × (usable first (now m) ≡ true) × (end .at + size cell ≤ length (now reply)) ⌝ }
-    ensures { λ r. ⌜ Lays (says first Act.Show cell (now (m .entry))) (end .at) (now (reply .entry)) (r .at) (now (reply .exit)) ⌝ }
+    ensures { λ r. ⌜ Laid (end .at) (r .at) (now (reply .entry)) (now (reply .exit)) (says first Act.Show cell (now (m .entry))) ⌝ }
 {
     let at = cell.at();
     let e = at + extent(cell, m[at]);
@@ -35,7 +36,7 @@ fn show(cell: Cell, m: &[u8], reply: &mut [u8], end: Cursor) -> Cursor
 // At a cursor, an item's signature, high byte first.
 fn sign(cell: Cell, m: &[u8], reply: &mut [u8], end: Cursor) -> Cursor
     requires { ⌜ (isItem cell ≡ true) × (usable first (now m) ≡ true) × (end .at + 2 ≤ length (now reply)) ⌝ }
-    ensures { λ r. ⌜ Lays (says first Act.Sign cell (now (m .entry))) (end .at) (now (reply .entry)) (r .at) (now (reply .exit)) ⌝ }
+    ensures { λ r. ⌜ Laid (end .at) (r .at) (now (reply .entry)) (now (reply .exit)) (says first Act.Sign cell (now (m .entry))) ⌝ }
 {
     let at = cell.at();
     let e = at + cell.size();
@@ -54,7 +55,7 @@ pub(crate) fn say(
     reply: &mut [u8],
 ) -> Cursor
     requires { ⌜ FitAccepted echo act cell (now body) × (usable first (now m) ≡ true) × (132 ≤ length (now reply)) ⌝ }
-    ensures { λ r. ⌜ Lays (replyOf first echo act cell (now (body .entry)) (now (m .entry))) 0 (now (reply .entry)) (r .at) (now (reply .exit)) ⌝ }
+    ensures { λ r. ⌜ Laid 0 (r .at) (now (reply .entry)) (now (reply .exit)) (replyOf first echo act cell (now (body .entry)) (now (m .entry))) ⌝ }
 {
     let n = 2 + echo;
     let start = Cursor { at: 0 };

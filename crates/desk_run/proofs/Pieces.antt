@@ -11,7 +11,8 @@ use Rattle.image.specs.Image.{Version}
 use Rattle.izk.specs.Block.{served}
 use Rattle.command.specs.Serve.{Serves}
 use Rattle.izk.proofs.Serving.{Way, early, through, way, answered-length}
-use Rattle.lines.specs.Lines.{Laid, lineOf}
+use Rattle.lines.specs.Lines.{lineOf}
+use Rattle.laws.specs.Bytes.{Laid}
 use Rattle.lines.proofs.Lines.{line-most}
 use Rattle.desk_run.specs.Desk.{printed}
 
@@ -42,7 +43,7 @@ printed-short v m p =
 
 -- so a line that was laid where 300 bytes were left has not run over
 pub laid-fits : (v : Version) (m p : List ℕ) (at at′ : ℕ) (text text′ : List ℕ) → Laid at at′ text text′ (printed v m p) → at + 300 ≤ length text → at′ ≤ length text′
-laid-fits v m p at at′ text text′ l h = omega (arith, printed-short v m p, ap length (l .1), length-lay text at (printed v m p))
+laid-fits v m p at at′ text text′ l h = omega (arith, printed-short v m p, ap length (l .laid), length-lay text at (printed v m p))
 
 -- a call that kept the promise of serving
 module _ (v : Version) (p m : List ℕ) (r : Answer) (m′ out : List ℕ) (s : Serves (served v p m (zeros 269)) r m′ out) where

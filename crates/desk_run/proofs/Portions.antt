@@ -7,11 +7,11 @@ use Prim.Native.Nat.{ℕ, zero, suc, _+_, _≤_, _<_}
 use native.Mathlib.Decide.{decLt}
 use native.Mathlib.Omega.{arith}
 use lib.ListN.{length, take, drop, length-append}
-use lib.Seq.{sets-eq, take-at, length-take-le}
+use lib.Seq.{take-at, length-take-le}
 use lib.Dec.{leb}
 use borrow.Author.Tests.{leb-true, le-ltb}
 use Rattle.laws.specs.Bytes.{lay}
-use Rattle.laws.proofs.Bytes.{length-lay}
+use Rattle.laws.proofs.Bytes.{length-lay, lay-between}
 use Rattle.laws.proofs.Walks.{none-left}
 use Rattle.image.specs.Image.{Version, first, fresh}
 use Rattle.lines.specs.Lines.{pieces, endFrom}
@@ -57,10 +57,9 @@ module _ (v : Version) (input : List ℕ) where
 -- ---- what a call leaves
 
 take-laid : (at : ℕ) (text bytes : List ℕ) → at + length bytes ≤ length text → take (at + length bytes) (lay text at bytes) ≡ take at text ++ bytes
-unfolding lay
 take-laid at text bytes h =
     let l : length (take at text ++ bytes) ≡ at + length bytes = omega (arith, length-append (take at text) bytes, length-take-le at text (omega arith)) in
-    ap (take (at + length bytes)) (sets-eq bytes text at h) ∙ take-at (take at text ++ bytes) (drop (at + length bytes) text) (at + length bytes) l
+    ap (take (at + length bytes)) (lay-between text at bytes h) ∙ take-at (take at text ++ bytes) (drop (at + length bytes) text) (at + length bytes) l
 
 module _ (v : Version) (input : List ℕ) where
   ran-long : (from at : ℕ) (m text : List ℕ) → length (ran v from at m text (pieces (drop from input)) .text) ≡ length text

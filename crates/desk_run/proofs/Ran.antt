@@ -11,7 +11,8 @@ use borrow.Author.Tests.{le-leb, lt-leb}
 use Rattle.laws.specs.Bytes.{part, lay}
 use Rattle.laws.proofs.Walks.{none-left}
 use Rattle.image.specs.Image.{Version, first}
-use Rattle.lines.specs.Lines.{Laid, pieces, endFrom}
+use Rattle.lines.specs.Lines.{pieces, endFrom}
+use Rattle.laws.specs.Bytes.{Laid}
 use Rattle.lines.proofs.Cuts.{pieceAt, end-past, piece-reaches, pieces-from}
 use Rattle.desk_run.specs.Desk.{printed, left, Ran, stopped, ran, Runs}
 
@@ -38,7 +39,7 @@ pub ran-again : (v : Version) (from to at at′ : ℕ) (m m′ text text′ inpu
     → to ≡ endFrom from input → Laid at at′ text text′ (printed v m (take (to - from) (drop from input))) → m′ ≡ left v m (take (to - from) (drop from input))
     → ran v from at m text (pieces (drop from input)) ≡ R → ran v to at′ m′ text′ (pieces (drop to input)) ≡ R
 unfolding part
-ran-again v from to at at′ m m′ text text′ input R h g e l i inv = rw (l .0, l .1, i, e) (sym (ran-turn v from at m text input h g) ∙ inv)
+ran-again v from to at at′ m m′ text text′ input R h g e l i inv = rw (l .past, l .laid, i, e) (sym (ran-turn v from at m text input h g) ∙ inv)
 
 -- ---- it gets on
 

@@ -3,7 +3,7 @@ ghost use mathlib.Core.Path.{_≡_};
 ghost use Prim.Native.Nat.{_+_, _≤_};
 ghost use lib.ListN.{length};
 ghost use Rattle.image.specs.Image.{first};
-ghost use Rattle.lines.specs.Lines.{Laid};
+ghost use Rattle.laws.specs.Bytes.{Laid};
 ghost use Rattle.desk_run.specs.Desk.{printed, left};
 use frame::Cursor;
 

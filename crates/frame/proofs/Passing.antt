@@ -1,31 +1,19 @@
 -- Frames that pass checks 3 to 6, and those that do not: what a caller of taking apart has in hand. Assumes nothing.
 use mathlib.Core.Path.{_≡_, refl, sym, _∙_}
-use mathlib.Core.List.{List, [], _∷_}
-use mathlib.Core.Bool.{Bool, true, false, cond}
+use mathlib.Core.List.{List, _∷_}
+use mathlib.Core.Bool.{true}
 use Prim.Native.Nat.{ℕ, _%_, _≤_}
 use native.Mathlib.Omega.{arith}
 use lib.ListN.{length}
-use lib.Dec.{leb, ltb}
-use borrow.Author.Tests.{leb-true, ltb-true}
+use lib.Dec.{leb}
+use borrow.Author.Tests.{leb-true}
 use Rattle.laws.specs.Checks.{Check, check, judged, firstFailing, risingFrom}
-use Rattle.laws.proofs.Tests.{and-both}
 use Rattle.laws.proofs.Checks as Checks
-use Rattle.laws.proofs.Checks.{AllPass, Judged, judge, judged-map, judged-passed}
+use Rattle.laws.proofs.Checks.{AllPass, Judged, judge, judged-map, judged-passed, none-fails}
 use Rattle.frame.specs.Digits.{allDigits}
 use Rattle.frame.specs.Frame.{After, refuse, written, endsOk, inner, contentsOf, sumOk, frameChecks, apart}
 use Rattle.frame.proofs.Body.{length-contents}
 use Rattle.frame.proofs.Answers.{length-is, apart-checked}
-
--- numbers that rise are never 0: where the first that fails has number 0, none does
-none-fails : (k : ℕ) (cs : List Check) → risingFrom k cs ≡ true → firstFailing cs ≡ 0 → AllPass cs
-unfolding firstFailing judged risingFrom
-none-fails k [] r z = tt
-none-fails k (c ∷ cs) r z = go (c .passes) refl (and-both (ltb k (c .number)) (risingFrom (c .number) cs) r) z (λ s e. none-fails (c .number) cs s e)
-  where
-    go : (t : Bool) → c .passes ≡ t → (ltb k (c .number) ≡ true) × (risingFrom (c .number) cs ≡ true) → cond t (judged (λ n. n) cs 0) (c .number) ≡ 0
-        → (risingFrom (c .number) cs ≡ true → judged (λ n. n) cs 0 ≡ 0 → AllPass cs) → (c .passes ≡ true) × AllPass cs
-    go true e p z ih = (e, ih (p .1) z)
-    go false e p z ih = let l = ltb-true k (c .number) (p .0) in absurd (let n : c .number ≡ 0 = z in omega arith)
 
 module _ (f : List ℕ) where
   rising : risingFrom 2 (frameChecks f) ≡ true

@@ -1,9 +1,8 @@
 // The write cursor: each method lays bytes at it, and hands back the cursor that stands past them.
-ghost use mathlib.Core.Path.{_≡_};
 ghost use mathlib.Core.List.{[], _∷_};
 ghost use Prim.Native.Nat.{_+_, _*_, _<_, _≤_};
 ghost use lib.ListN.{length};
-ghost use Rattle.laws.specs.Bytes.{lay, zeros};
+ghost use Rattle.laws.specs.Bytes.{Laid, zeros};
 ghost use Rattle.frame.specs.Digits.{charsOf};
 use crate::digits::char_of;
 
@@ -15,7 +14,7 @@ pub struct Cursor {
 impl Cursor {
     pub fn put(self, out: &mut [u8], b: u8) -> Cursor
         requires { ⌜ self .at < length (now out) ⌝ }
-        ensures { λ r. ⌜ (r .at ≡ self .at + 1) × (now (out .exit) ≡ lay (now (out .entry)) (self .at) (b ∷ [])) ⌝ }
+        ensures { λ r. ⌜ Laid (self .at) (r .at) (now (out .entry)) (now (out .exit)) (b ∷ []) ⌝ }
     {
         let at = self.at;
         out[at] = b;
@@ -24,7 +23,7 @@ impl Cursor {
 
     pub fn put_all(self, out: &mut [u8], src: &[u8]) -> Cursor
         requires { ⌜ self .at + length (now src) ≤ length (now out) ⌝ }
-        ensures { λ r. ⌜ (r .at ≡ self .at + length (now (src .entry))) × (now (out .exit) ≡ lay (now (out .entry)) (self .at) (now (src .entry))) ⌝ }
+        ensures { λ r. ⌜ Laid (self .at) (r .at) (now (out .entry)) (now (out .exit)) (now (src .entry)) ⌝ }
     {
         let mut c = self;
         let mut i = 0;
@@ -37,7 +36,7 @@ impl Cursor {
 
     pub fn put_zeros(self, out: &mut [u8], n: usize) -> Cursor
         requires { ⌜ self .at + n ≤ length (now out) ⌝ }
-        ensures { λ r. ⌜ (r .at ≡ self .at + n) × (now (out .exit) ≡ lay (now (out .entry)) (self .at) (zeros n)) ⌝ }
+        ensures { λ r. ⌜ Laid (self .at) (r .at) (now (out .entry)) (now (out .exit)) (zeros n) ⌝ }
     {
         let mut c = self;
         let mut left = n;
@@ -51,7 +50,7 @@ impl Cursor {
     // Both characters of a byte, high half first.
     pub(crate) fn put_byte(self, out: &mut [u8], b: u8) -> Cursor
         requires { ⌜ self .at + 2 ≤ length (now out) ⌝ }
-        ensures { λ r. ⌜ (r .at ≡ self .at + 2) × (now (out .exit) ≡ lay (now (out .entry)) (self .at) (charsOf (b ∷ []))) ⌝ }
+        ensures { λ r. ⌜ Laid (self .at) (r .at) (now (out .entry)) (now (out .exit)) (charsOf (b ∷ [])) ⌝ }
     {
         let next = self.put(out, char_of(b / 16));
         next.put(out, char_of(b % 16))
@@ -59,7 +58,7 @@ impl Cursor {
 
     pub(crate) fn put_chars(self, out: &mut [u8], src: &[u8]) -> Cursor
         requires { ⌜ self .at + 2 * length (now src) ≤ length (now out) ⌝ }
-        ensures { λ r. ⌜ (r .at ≡ self .at + 2 * length (now (src .entry))) × (now (out .exit) ≡ lay (now (out .entry)) (self .at) (charsOf (now (src .entry)))) ⌝ }
+        ensures { λ r. ⌜ Laid (self .at) (r .at) (now (out .entry)) (now (out .exit)) (charsOf (now (src .entry))) ⌝ }
     {
         let mut c = self;
         let mut i = 0;

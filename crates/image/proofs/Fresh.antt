@@ -1,17 +1,17 @@
 -- A fresh image: how code comes by it, that it is usable, and that it holds no part. Assumes nothing.
-use mathlib.Core.Path.{_≡_, refl, ap, _∙_}
+use mathlib.Core.Path.{_≡_, refl, sym, ap, _∙_}
 use mathlib.Core.Logic.{_≢_}
 use mathlib.Core.List.{List, [], _∷_, _++_, append-nil}
 use mathlib.Core.Bool.{true}
-use Prim.Native.Nat.{ℕ, zero, suc, _+_, _*_, _≤_, _<_}
+use Prim.Native.Nat.{ℕ, _+_, _*_, _≤_, _<_}
 use native.Mathlib.Omega.{arith}
 use lib.ListN.{length, getD, drop, set, drop-of-length-le}
 use borrow.Author.Tests.{eq-eqb, ne-eqb}
 use borrow.Author.Fill.{fill-more}
-use Rattle.laws.specs.Bytes.{lay, zeros, pair}
+use Rattle.laws.specs.Bytes.{zeros, pair}
 use Rattle.laws.specs.Checks.{judged}
 use Rattle.laws.specs.Bits.{onesIn}
-use Rattle.laws.proofs.Bytes.{length-zeros, length-lay, lay-at, lay-out}
+use Rattle.laws.proofs.Bytes.{length-zeros, length-lay, lay-at, lay-out, lay-is, zeros-at}
 use Rattle.image.specs.Cell.{isTable, place}
 use Rattle.image.specs.Image.{Version, first, number, long, headOk, word, usable, fresh}
 use Rattle.image.specs.Held.{missingFrom, lowestMissing, heldOf, heldParts}
@@ -34,19 +34,13 @@ clear-done m m₀ i h g e =
 
 -- and marked from the front
 pub fresh-is : (z m : List ℕ) (a : ℕ) → length m ≡ 23753 → z ≡ zeros (length m) → set (set (set (set (set (set z 0 73) 1 90) 2 75) 3 0) 4 1) 5 a ≡ fresh first a
-unfolding fresh lay
-fresh-is z m a h e = rw (e, h)
+unfolding fresh
+fresh-is z m a h e = rw (e, h) (sym (lay-is _ _ _))
 
 -- ---- its bytes
 
 abbrev head : Version → ℕ → List ℕ
 head v a = 73 ∷ (90 ∷ (75 ∷ (0 ∷ (number v ∷ (a ∷ [])))))
-
-zero-at : (n i : ℕ) → getD (zeros n) i 0 ≡ 0
-unfolding zeros
-zero-at zero i = refl
-zero-at (suc n) zero = refl
-zero-at (suc n) (suc i) = zero-at n i
 
 module _ (v : Version) (a : ℕ) where
   length-fresh : length (fresh v a) ≡ long v
@@ -59,7 +53,7 @@ module _ (v : Version) (a : ℕ) where
 
   rest-at : (i : ℕ) → 6 ≤ i → getD (fresh v a) i 0 ≡ 0
   unfolding fresh
-  rest-at i h = lay-out (zeros (long v)) 0 (head v a) i (λ p. let z : ⊥ = omega arith in z) ∙ zero-at (long v) i
+  rest-at i h = lay-out (zeros (long v)) 0 (head v a) i (λ p. let z : ⊥ = omega arith in z) ∙ zeros-at (long v) i
 
   word-none : (k : ℕ) → word (fresh v a) k ≡ 0
   unfolding word pair

@@ -4,4 +4,5 @@ pub mod Serving
 pub mod Changes
 pub mod ReadBack
 pub mod OneOutcome
+pub mod HeldAfter
 pub mod Taking

@@ -6,8 +6,8 @@ use native.Mathlib.Nat.{not-suc-le-zero}
 use native.Mathlib.Numerals.{add-one}
 use native.Mathlib.Omega.{arith}
 use lib.ListN.{length, getD, take, drop, set, length-take, length-drop, length-set, length-append, length-replicate, List·getD-append}
-use lib.Seq.{length-sets, sets-eq, set-comm, set-set, getD-set-same, getD-set-other, getD-take, getD-drop, ext-getD, take-at, drop-at, take-append-le, length-take-le}
-use Rattle.laws.specs.Bytes.{part, lay, zeros, padded, two, pair}
+use lib.Seq.{sets, length-sets, sets-eq, set-comm, getD-set-same, getD-set-other, getD-take, getD-drop, ext-getD, take-at, drop-at, take-append-le, length-take-le}
+use Rattle.laws.specs.Bytes.{part, lay, Laid, zeros, padded, two, pair}
 
 -- i lies in the n bytes from a
 abbrev pub In : ℕ → ℕ → ℕ → Type 0
@@ -21,32 +21,41 @@ Apart a n b m = (i : ℕ) → In a n i → ¬ In b m i
 
 pub lay-none : (l : List ℕ) (k : ℕ) → lay l k [] ≡ l
 unfolding lay
-lay-none l k = refl
+lay-none [] k = refl
+lay-none (x ∷ l) zero = refl
+lay-none (x ∷ l) (suc k) = ap (λ (t : List ℕ). x ∷ t) (lay-none l k)
+
+-- the first byte is stored, and the others are laid behind it
+pub lay-first : (l : List ℕ) (k v : ℕ) (vs : List ℕ) → lay l k (v ∷ vs) ≡ lay (set l k v) (suc k) vs
+unfolding lay
+lay-first [] k v vs = refl
+lay-first (x ∷ l) zero v vs = refl
+lay-first (x ∷ l) (suc k) v vs = ap (λ (t : List ℕ). x ∷ t) (lay-first l k v vs)
+
+-- bytes laid are bytes stored one after the other
+pub lay-is : (l : List ℕ) (k : ℕ) (vs : List ℕ) → lay l k vs ≡ sets l k vs
+lay-is l k [] = lay-none l k
+lay-is l k (v ∷ vs) = lay-first l k v vs ∙ lay-is (set l k v) (suc k) vs
 
 pub lay-one : (l : List ℕ) (k v : ℕ) → set l k v ≡ lay l k (v ∷ [])
-unfolding lay
-lay-one l k v = refl
+lay-one l k v = sym (lay-is l k (v ∷ []))
 
 -- what is left to be laid, after its first element was stored
 pub lay-next : (w R L L′ : List ℕ) (k v : ℕ) → L ≡ v ∷ L′ → lay w k L ≡ R → lay (set w k v) (k + 1) L′ ≡ R
-unfolding lay
-lay-next w R L L′ k v e h = rw add-one (rw e at h)
+lay-next w R L L′ k v e h = rw (add-one, ← lay-first) (rw e at h)
 
 pub lay-done : (w R L : List ℕ) (k : ℕ) → L ≡ [] → lay w k L ≡ R → w ≡ R
-unfolding lay
-lay-done w R L k e h = rw e at h
+lay-done w R L k e h = sym (lay-none w k) ∙ (rw e at h)
 
 pub length-lay : (l : List ℕ) (i : ℕ) (vs : List ℕ) → length (lay l i vs) ≡ length l
-unfolding lay
-length-lay l i vs = length-sets l i vs
+length-lay l i vs = ap length (lay-is l i vs) ∙ length-sets l i vs
 
 -- laying one after the other
 pub lay-append : (l : List ℕ) (i : ℕ) (vs ws : List ℕ) → lay l i (vs ++ ws) ≡ lay (lay l i vs) (i + length vs) ws
-unfolding lay
-lay-append l i [] ws = let e : i + 0 ≡ i = omega arith in rw e
+lay-append l i [] ws = let e : i + 0 ≡ i = omega arith in rw (e, lay-none)
 lay-append l i (v ∷ vs) ws =
     let e : i + suc (length vs) ≡ suc i + length vs = omega arith in
-    rw e (lay-append (set l i v) (suc i) vs ws)
+    rw (e, lay-first l i v (vs ++ ws), lay-first l i v vs) (lay-append (set l i v) (suc i) vs ws)
 
 -- a cursor's step in a loop: w with M laid at k is w′, and the cursor stands past M
 pub lay-more : (w w′ R L M L′ : List ℕ) (k k′ : ℕ) → L ≡ M ++ L′ → w′ ≡ lay w k M → k′ ≡ k + length M → lay w k L ≡ R → lay w′ k′ L′ ≡ R
@@ -56,59 +65,74 @@ lay-more w w′ R L M L′ k k′ e a b h = rw (a, b, ← lay-append, ← e) h
 pub lay-trans : (o o₁ o₂ M N : List ℕ) (k k₁ : ℕ) → o₁ ≡ lay o k M → k₁ ≡ k + length M → o₂ ≡ lay o₁ k₁ N → o₂ ≡ lay o k (M ++ N)
 lay-trans o o₁ o₂ M N k k₁ a b e = rw lay-append (rw (← a, ← b) e)
 
+-- the same of a cursor
+pub laid-none : (k : ℕ) (o : List ℕ) → Laid k k o o []
+laid-none k o = record { past = omega arith; laid = sym (lay-none o k) }
+
+pub laid-then : (k k₁ k₂ : ℕ) (o o₁ o₂ M N : List ℕ) → Laid k k₁ o o₁ M → Laid k₁ k₂ o₁ o₂ N → Laid k k₂ o o₂ (M ++ N)
+laid-then k k₁ k₂ o o₁ o₂ M N p q = record { past = omega (arith, length-append M N); laid = lay-trans o o₁ o₂ M N k k₁ (p .laid) (p .past) (q .laid) }
+
+pub laid-long : {k k₁ : ℕ} {o o₁ M : List ℕ} → Laid k k₁ o o₁ M → length o₁ ≡ length o
+laid-long {k} {o} {M} l = ap length (l .laid) ∙ length-lay o k M
+
 -- ---- laying, byte by byte
 
 pub lay-out : (m : List ℕ) (a : ℕ) (bs : List ℕ) (i : ℕ) → ¬ In a (length bs) i → getD (lay m a bs) i 0 ≡ getD m i 0
-unfolding lay
-lay-out m a [] i h = refl
+lay-out m a [] i h = rw lay-none
 lay-out m a (b ∷ bs) i h =
-    lay-out (set m a b) (suc a) bs i (λ p. h (omega arith, omega arith))
+    ap (λ (l : List ℕ). getD l i 0) (lay-first m a b bs)
+    ∙ lay-out (set m a b) (suc a) bs i (λ p. h (omega arith, omega arith))
     ∙ getD-set-other m a i b 0 (λ e. h (omega arith, omega arith))
 
 pub lay-in : (m : List ℕ) (a : ℕ) (bs : List ℕ) (j : ℕ) → j < length bs → a + j < length m → getD (lay m a bs) (a + j) 0 ≡ getD bs j 0
-unfolding lay
 lay-in m a [] j h g = absurd (not-suc-le-zero h)
 lay-in m a (b ∷ bs) zero h g =
     let e : a + 0 ≡ a = omega arith in
-    rw e (lay-out (set m a b) (suc a) bs a (λ p. absurd (omega arith)) ∙ getD-set-same m a b 0 (omega arith))
+    rw (e, lay-first) (lay-out (set m a b) (suc a) bs a (λ p. absurd (omega arith)) ∙ getD-set-same m a b 0 (omega arith))
 lay-in m a (b ∷ bs) (suc j) h g =
     let e : a + suc j ≡ suc a + j = omega arith in
-    rw e (lay-in (set m a b) (suc a) bs j (omega arith) (rw length-set (omega arith)))
+    rw (e, lay-first) (lay-in (set m a b) (suc a) bs j (omega arith) (rw length-set (omega arith)))
 
 -- ---- two that do not overlap commute; one at the same place covers the other
 
 set-lay : (m : List ℕ) (i v b : ℕ) (ys : List ℕ) → ¬ In b (length ys) i → set (lay m b ys) i v ≡ lay (set m i v) b ys
-unfolding lay
-set-lay m i v b [] h = refl
+set-lay m i v b [] h = rw (lay-none m b, lay-none (set m i v) b)
 set-lay m i v b (y ∷ ys) h =
-    set-lay (set m b y) i v (suc b) ys (λ p. h (omega arith, omega arith))
+    ap (λ (l : List ℕ). set l i v) (lay-first m b y ys)
+    ∙ set-lay (set m b y) i v (suc b) ys (λ p. h (omega arith, omega arith))
     ∙ ap (λ (l : List ℕ). lay l (suc b) ys) (set-comm m b i y v (λ e. h (omega arith, omega arith)))
+    ∙ sym (lay-first (set m i v) b y ys)
 
 pub lay-swap : (m : List ℕ) (a : ℕ) (xs : List ℕ) (b : ℕ) (ys : List ℕ) → Apart a (length xs) b (length ys) → lay (lay m a xs) b ys ≡ lay (lay m b ys) a xs
-unfolding lay
-lay-swap m a [] b ys h = refl
+lay-swap m a [] b ys h = rw (lay-none m a, lay-none (lay m b ys) a)
 lay-swap m a (x ∷ xs) b ys h =
-    lay-swap (set m a x) (suc a) xs b ys (λ i p. h i (omega arith, omega arith))
+    ap (λ (l : List ℕ). lay l b ys) (lay-first m a x xs)
+    ∙ lay-swap (set m a x) (suc a) xs b ys (λ i p. h i (omega arith, omega arith))
     ∙ ap (λ (l : List ℕ). lay l (suc a) xs) (sym (set-lay m a x b ys (h a (omega arith, omega arith))))
+    ∙ sym (lay-first (lay m b ys) a x xs)
 
 pub lay-over : (m : List ℕ) (a : ℕ) (xs ys : List ℕ) → length xs ≡ length ys → lay (lay m a xs) a ys ≡ lay m a ys
 unfolding lay
-lay-over m a [] [] e = refl
-lay-over m a [] (y ∷ ys) e = absurd (omega arith)
-lay-over m a (x ∷ xs) [] e = absurd (omega arith)
-lay-over m a (x ∷ xs) (y ∷ ys) e =
-    ap (λ (l : List ℕ). lay l (suc a) ys) (set-lay (set m a x) a y (suc a) xs (λ p. absurd (omega arith)) ∙ ap (λ (l : List ℕ). lay l (suc a) xs) (set-set m a x y))
-    ∙ lay-over (set m a y) (suc a) xs ys (omega arith)
+lay-over [] a xs ys e = refl
+lay-over (w ∷ m) zero [] [] e = refl
+lay-over (w ∷ m) zero [] (y ∷ ys) e = absurd (omega arith)
+lay-over (w ∷ m) zero (x ∷ xs) [] e = absurd (omega arith)
+lay-over (w ∷ m) zero (x ∷ xs) (y ∷ ys) e = ap (λ (l : List ℕ). y ∷ l) (lay-over m zero xs ys (omega arith))
+lay-over (w ∷ m) (suc a) xs ys e = ap (λ (l : List ℕ). w ∷ l) (lay-over m a xs ys e)
+
+-- ---- what stands before, between and after
+
+pub lay-between : (m : List ℕ) (a : ℕ) (bs : List ℕ) → a + length bs ≤ length m → lay m a bs ≡ (take a m ++ bs) ++ drop (a + length bs) m
+lay-between m a bs h = lay-is m a bs ∙ sets-eq bs m a h
 
 -- ---- at the start of a list
 
 module _ (z l : List ℕ) (fits : length l ≤ length z) where
   pub lay-start : lay z 0 l ≡ l ++ drop (length l) z
-  unfolding lay
   lay-start =
       let h : 0 + length l ≤ length z = omega arith in
       let e : 0 + length l ≡ length l = omega arith in
-      sets-eq l z 0 h ∙ ap (λ (n : ℕ). l ++ drop n z) e
+      lay-between z 0 l h ∙ ap (λ (n : ℕ). l ++ drop n z) e
 
   pub lay-take : (n : ℕ) → n ≤ length l → take n (lay z 0 l) ≡ take n l
   lay-take n h = rw lay-start (take-append-le n l _ h)
@@ -137,10 +161,10 @@ part-is at e n l h = rw h
 
 -- what was laid is read
 pub part-lay : (m : List ℕ) (a n : ℕ) (bs : List ℕ) → n ≤ length bs → a + length bs ≤ length m → part a n (lay m a bs) ≡ take n bs
-unfolding part lay
+unfolding part
 part-lay m a n bs h g =
     let e : length (take a m) ≡ a = length-take-le a m (omega arith) in
-    ap (λ (l : List ℕ). take n (drop a l)) (sets-eq bs m a g ∙ append-assoc (take a m) bs (drop (a + length bs) m))
+    ap (λ (l : List ℕ). take n (drop a l)) (lay-between m a bs g ∙ append-assoc (take a m) bs (drop (a + length bs) m))
     ∙ ap (take n) (drop-at (take a m) (bs ++ drop (a + length bs) m) a e)
     ∙ take-append-le n bs (drop (a + length bs) m) h
 
@@ -160,6 +184,23 @@ part-out m a n b bs h = part-same (lay m b bs) m a n (length-lay m b bs) (λ i p
 pub length-zeros : (n : ℕ) → length (zeros n) ≡ n
 unfolding zeros
 length-zeros n = length-replicate {A = ℕ} n 0
+
+-- one by one, as a loop lays them
+pub zeros-next : (n : ℕ) → 0 < n → zeros n ≡ 0 ∷ zeros (n - 1)
+unfolding zeros
+zeros-next zero h = absurd (omega arith)
+zeros-next (suc n) h = let e : suc n - 1 ≡ n = omega arith in rw e
+
+pub zeros-none : (n : ℕ) → n ≤ 0 → zeros n ≡ []
+unfolding zeros
+zeros-none zero h = refl
+zeros-none (suc n) h = absurd (omega arith)
+
+pub zeros-at : (n i : ℕ) → getD (zeros n) i 0 ≡ 0
+unfolding zeros
+zeros-at zero i = refl
+zeros-at (suc n) zero = refl
+zeros-at (suc n) (suc i) = zeros-at n i
 
 pub length-padded : (n : ℕ) (bs : List ℕ) → length bs ≤ n → length (padded n bs) ≡ n
 unfolding padded

@@ -59,18 +59,6 @@ rising-some : (k : ℕ) (c : Check) (cs : List Check) → risingFrom k (c ∷ cs
 unfolding risingFrom
 rising-some k c cs h = let p = and-both (ltb k (c .number)) (risingFrom (c .number) cs) h in (ltb-true _ _ (p .0), p .1)
 
--- numbers that rise from k: none that fails is at most k
-pub failing-above : (k : ℕ) (cs : List Check) → risingFrom k cs ≡ true → (firstFailing cs ≡ 0) ⊎ (k < firstFailing cs)
-unfolding firstFailing judged
-failing-above k [] h = inl refl
-failing-above k (c ∷ cs) h = go (c .passes) (rising-some k c cs h) (failing-above (c .number) cs (rising-some k c cs h .1))
-  where
-    go : (t : Bool) → (k < c .number) × (risingFrom (c .number) cs ≡ true) → (firstFailing cs ≡ 0) ⊎ (c .number < firstFailing cs)
-        → (cond t (judged (λ n. n) cs 0) (c .number) ≡ 0) ⊎ (k < cond t (judged (λ n. n) cs 0) (c .number))
-    go true p (inl e) = inl e
-    go true p (inr l) = inr (omega arith)
-    go false p r = inr (p .0)
-
 -- lowest number first: any check that fails has a number no lower than the one that is given
 pub lowest-first : {c : Check} (k : ℕ) (cs : List Check) → risingFrom k cs ≡ true → List·Memᴰ c cs → c .passes ≡ false → (firstFailing cs ≤ c .number) × (k < firstFailing cs)
 unfolding firstFailing judged
@@ -93,3 +81,14 @@ lowest-first {c} k (d ∷ cs) h m f = go (d .passes) refl (rising-some k d cs h)
     go true e p (inr i) ih ab = let z = ih i in (z .0, omega arith)
     go false e p (inl i) ih ab = (rw i (omega arith), p .0)
     go false e p (inr i) ih ab = let z = ab (d .number) (p .1) i in (omega arith, p .0)
+
+-- numbers that rise are never 0: where the first that fails has number 0, none does
+pub none-fails : (k : ℕ) (cs : List Check) → risingFrom k cs ≡ true → firstFailing cs ≡ 0 → AllPass cs
+unfolding firstFailing judged
+none-fails k [] r z = tt
+none-fails k (c ∷ cs) r z = go (c .passes) refl (rising-some k c cs r) z (λ s e. none-fails (c .number) cs s e)
+  where
+    go : (t : Bool) → c .passes ≡ t → (k < c .number) × (risingFrom (c .number) cs ≡ true) → cond t (judged (λ n. n) cs 0) (c .number) ≡ 0
+        → (risingFrom (c .number) cs ≡ true → judged (λ n. n) cs 0 ≡ 0 → AllPass cs) → (c .passes ≡ true) × AllPass cs
+    go true e p z ih = (e, ih (p .1) z)
+    go false e p z ih = absurd (let n : c .number ≡ 0 = z in omega arith)

@@ -4,8 +4,9 @@ use mathlib.Core.List.{List, [], _∷_, _++_}
 use Prim.Native.Nat.{ℕ, zero, suc, _+_, _*_, _≤_, _<_}
 use native.Mathlib.Omega.{arith}
 use lib.ListN.{length, getD, take, drop, take-append-drop}
-use lib.Seq.{sets-eq, take-add}
+use lib.Seq.{take-add}
 use Rattle.laws.specs.Bytes.{part, lay, sumOf}
+use Rattle.laws.proofs.Bytes.{lay-between}
 use Rattle.laws.proofs.Walks.{next, none-left}
 
 -- ---- as a loop adds it up
@@ -33,10 +34,10 @@ sum-bound (x ∷ s) h = let e = sum-bound s (λ k. h (suc k)) in let b = h zero 
 
 -- over a laid stretch: what left and what came
 pub sum-lay : (m : List ℕ) (a : ℕ) (bs : List ℕ) → a + length bs ≤ length m → sumOf (lay m a bs) + sumOf (part a (length bs) m) ≡ sumOf m + sumOf bs
-unfolding lay part
+unfolding part
 sum-lay m a bs h =
     let l : sumOf (lay m a bs) ≡ sumOf (take a m) + sumOf bs + sumOf (drop (a + length bs) m) =
-    ap sumOf (sets-eq bs m a h) ∙ sum-append (take a m ++ bs) (drop (a + length bs) m) ∙ ap (λ (n : ℕ). n + sumOf (drop (a + length bs) m)) (sum-append (take a m) bs) in
+    ap sumOf (lay-between m a bs h) ∙ sum-append (take a m ++ bs) (drop (a + length bs) m) ∙ ap (λ (n : ℕ). n + sumOf (drop (a + length bs) m)) (sum-append (take a m) bs) in
     let r : sumOf m ≡ sumOf (take a m) + sumOf (take (length bs) (drop a m)) + sumOf (drop (a + length bs) m) =
     ap sumOf (sym (take-append-drop (a + length bs) m)) ∙ sum-append (take (a + length bs) m) (drop (a + length bs) m)
     ∙ ap (λ (n : ℕ). n + sumOf (drop (a + length bs) m)) (ap sumOf (take-add a (length bs) m) ∙ sum-append (take a m) (take (length bs) (drop a m))) in

@@ -1,9 +1,9 @@
 -- Bytes in a list. Every layer reads a stretch by `part` alone and changes an image or an output by `lay` alone, so what is proved of these
 -- two is proved once. Assumes nothing.
-use Prim.Native.Nat.{ℕ, _+_, _-_, _*_, _/_, _%_}
+use Prim.Native.Nat.{ℕ, zero, suc, _+_, _-_, _*_, _/_, _%_}
+use mathlib.Core.Path.{_≡_}
 use mathlib.Core.List.{List, [], _∷_, _++_}
 use lib.ListN.{length, getD, take, drop, replicate}
-use lib.Seq.{sets}
 
 -- n bytes from an offset
 unfoldable pub part : ℕ → ℕ → List ℕ → List ℕ
@@ -11,7 +11,15 @@ part at n l = take n (drop at l)
 
 -- a list with bytes laid over it from an offset on. What would fall past its end is lost: the length stays
 unfoldable pub lay : List ℕ → ℕ → List ℕ → List ℕ
-lay l at bytes = sets l at bytes
+lay [] at bytes = []
+lay (x ∷ l) zero [] = x ∷ l
+lay (x ∷ l) zero (b ∷ bytes) = b ∷ lay l zero bytes
+lay (x ∷ l) (suc at) bytes = x ∷ lay l at bytes
+
+-- a cursor has moved from one offset to another, past the bytes that were laid there
+pub record Laid (from to : ℕ) (old new bytes : List ℕ) : Type 0 where
+  pub past : to ≡ from + length bytes
+  pub laid : new ≡ lay old from bytes
 
 unfoldable pub zeros : ℕ → List ℕ
 zeros n = replicate n 0

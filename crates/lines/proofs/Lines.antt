@@ -1,6 +1,6 @@
 -- The parts of a line, as the code lays them one after the other. Assumes nothing.
-use mathlib.Core.Path.{_≡_, sym}
-use mathlib.Core.List.{List, [], _∷_, _++_}
+use mathlib.Core.Path.{_≡_}
+use mathlib.Core.List.{List, [], _∷_}
 use mathlib.Core.Bool.{Bool, true, false, cond}
 use Prim.Native.Nat.{ℕ, _+_, _-_, _/_, _%_, _≤_, _<_}
 use native.Mathlib.Omega.{arith}
@@ -8,14 +8,8 @@ use lib.ListN.{length, take, length-append}
 use lib.Dec.{ltb, eqb}
 use borrow.Author.Tests.{lt-ltb, le-ltb, eq-eqb, ne-eqb}
 use Rattle.laws.specs.Bytes.{part}
-use Rattle.laws.proofs.Bytes.{lay-none, lay-trans, part-most}
-use Rattle.lines.specs.Lines.{Laid, decimal, shown, lineOf}
-
-pub laid-none : (k : ℕ) (o : List ℕ) → Laid k k o o []
-laid-none k o = (omega arith, sym (lay-none o k))
-
-pub laid-then : (k k₁ k₂ : ℕ) (o o₁ o₂ M N : List ℕ) → Laid k k₁ o o₁ M → Laid k₁ k₂ o₁ o₂ N → Laid k k₂ o o₂ (M ++ N)
-laid-then k k₁ k₂ o o₁ o₂ M N p q = (omega (arith, length-append M N), lay-trans o o₁ o₂ M N k k₁ (p .1) (p .0) (q .1))
+use Rattle.laws.proofs.Bytes.{part-most}
+use Rattle.lines.specs.Lines.{decimal, shown, lineOf}
 
 module _ (n : ℕ) where
   pub decimal-one : n < 10 → decimal n ≡ (48 + n) ∷ []

@@ -1,12 +1,11 @@
 -- The desk program's input and output (document 01, end of "Frames to hold the block to"): how the input is cut, and the line that is printed
 -- for a piece. Assumes nothing.
 use Prim.Native.Nat.{ℕ, suc, _+_, _-_, _/_, _%_, min}
-use mathlib.Core.Path.{_≡_}
 use mathlib.Core.List.{List, [], _∷_, _++_}
 use mathlib.Core.Bool.{Bool, true, false, cond}
 use lib.ListN.{length, drop}
 use lib.Dec.{ltb, eqb}
-use Rattle.laws.specs.Bytes.{part, lay}
+use Rattle.laws.specs.Bytes.{part}
 
 -- ---- cutting
 
@@ -31,10 +30,6 @@ unfoldable pub endFrom : ℕ → List ℕ → ℕ
 endFrom from s = min (length s) (from + ends (drop from s))
 
 -- ---- the line of a piece
-
--- a cursor has moved on by the bytes that were laid at it
-abbrev pub Laid : ℕ → ℕ → List ℕ → List ℕ → List ℕ → Type 0
-Laid from to old new bytes = (to ≡ from + length bytes) × (new ≡ lay old from bytes)
 
 -- a number below 100 as characters, with no leading zero
 unfoldable pub decimal : ℕ → List ℕ

@@ -1,7 +1,8 @@
 // The line that is printed for a piece, laid at a write cursor.
 ghost use Prim.Native.Nat.{_+_, _≤_};
 ghost use lib.ListN.{length};
-ghost use Rattle.lines.specs.Lines.{Laid, decimal, shown, lineOf};
+ghost use Rattle.lines.specs.Lines.{decimal, shown, lineOf};
+ghost use Rattle.laws.specs.Bytes.{Laid};
 use frame::Cursor;
 
 // The number's digits.

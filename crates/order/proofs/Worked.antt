@@ -57,19 +57,25 @@ pub same-service : SameService (step first) nothing (0, []) (fresh first 1) call
 unfolding calls writes back fresh lay zeros
 same-service = any-order-serves first 1 calls other (fresh first 1) (fresh-usable, refl) (reorders-of back other undone redone) (no-clash-of 1 calls no-two-meet)
 
--- ---- fewer of them, by the definition alone: three parts of table 1 and one of table 2, in two orders
+-- ---- both orders, computed by the definition alone
 
-unfoldable pub few : List Call
-few = writes 1 1 3 ++ writes 2 1 1
-
+-- n parts of 128 bytes, from part p on, each byte of a part its number
 unfoldable pub rows : ℕ → ℕ → List ℕ
 rows p zero = []
 rows p (suc n) = replicate 128 p ++ rows (suc p) n
 
--- the whole image: mark, version, address; the words of both tables; their parts
-unfoldable pub expected : List ℕ
-expected = 73 ∷ (90 ∷ (75 ∷ (0 ∷ (1 ∷ (1 ∷ (zeros 11 ++ (0 ∷ (7 ∷ (0 ∷ (1 ∷ (zeros 1204 ++ (rows 1 3 ++ (zeros 1024 ++ (rows 1 1 ++ zeros 20992))))))))))))))
+-- the words of the sixteen tables: all eleven parts of table 2 are held, and the first two of table 12, the tenth in the image
+unfoldable pub words : List ℕ
+words = zeros 2 ++ (7 ∷ (255 ∷ (zeros 14 ++ (0 ∷ (3 ∷ zeros 12)))))
 
-pub both-orders : (final (step first) (fresh first 1) few ≡ expected) × (final (step first) (fresh first 1) (pick nothing few (3 ∷ (2 ∷ (0 ∷ (1 ∷ []))))) ≡ expected)
-unfolding few writes rows expected served answered heard recognised sought tried stored lookup table headOk countOk word wordOk usable fresh when isTable Cells.place partNamed lengthOk endsOk inner bodyOf contentsOf sumOk frameChecks frameOf isDigit allDigits valueOf charOf charsOf bytesOf checksumOf withBit judged within every part lay zeros padded sumOf two pair
-both-orders = (refl, refl)
+-- the whole image: mark, version and address, the words, the rows of both tables, and 0 elsewhere
+unfoldable pub expected : List ℕ
+expected = (73 ∷ (90 ∷ (75 ∷ (0 ∷ (1 ∷ (1 ∷ zeros 11)))))) ++ (words ++ (zeros 2584 ++ (rows 1 11 ++ (zeros 9856 ++ (rows 1 2 ++ zeros 9600)))))
+
+pub as-written : final (step first) (fresh first 1) calls ≡ expected
+unfolding calls other writes rows words expected served answered heard recognised sought tried stored lookup table headOk countOk word wordOk usable fresh when isTable Cells.place partNamed lengthOk endsOk inner bodyOf contentsOf sumOk frameChecks frameOf isDigit allDigits valueOf charOf charsOf bytesOf checksumOf withBit judged within every part lay zeros padded sumOf two pair
+as-written = refl
+
+pub otherwise : final (step first) (fresh first 1) (pick nothing calls other) ≡ expected
+unfolding calls other writes rows words expected served answered heard recognised sought tried stored lookup table headOk countOk word wordOk usable fresh when isTable Cells.place partNamed lengthOk endsOk inner bodyOf contentsOf sumOk frameChecks frameOf isDigit allDigits valueOf charOf charsOf bytesOf checksumOf withBit judged within every part lay zeros padded sumOf two pair
+otherwise = refl

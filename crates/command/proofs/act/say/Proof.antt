@@ -1,7 +1,8 @@
 use mathlib.Core.Path.{sym}
 use native.Mathlib.Omega.{arith}
 use borrow.Author.Needs.{needs}
-use Rattle.command.proofs.Doing.{shows, signs, opening, room-stays, and-then, and-no-more}
+use Rattle.laws.proofs.Bytes.{laid-none, laid-then, laid-long}
+use Rattle.command.proofs.Doing.{shows, signs, opening}
 use Rattle.command.proofs.act.say.Statement.{statement}
 use Rattle.command.proofs.act.say.Tie as tie
 
@@ -23,7 +24,7 @@ show-requires c κs =
     let p = o .put-all .ensures in
     let s = o .before .before .before .before .before .before in
     let f = shows (s .pre .0) (c .before .enum-told .given .1) in
-    (f .0, s .pre .1, omega (arith, p .0, room-stays _ _ (p .0) (p .1), opening (s .pre .0), f .1, s .pre .2))
+    (f .0, s .pre .1, omega (arith, p .past, laid-long p, opening (s .pre .0), f .1, s .pre .2))
 
 enum-told-2 : tie.Need-enum-told-2
 enum-told-2 c = search needs
@@ -34,7 +35,7 @@ sign-requires c κs =
     let p = o .put-all .ensures in
     let s = o .before .before .before .before .before .before in
     let f = signs (s .pre .0) (c .before .enum-told2 .given .1) in
-    (f .0, s .pre .1, omega (arith, p .0, room-stays _ _ (p .0) (p .1), opening (s .pre .0), f .1, s .pre .2))
+    (f .0, s .pre .1, omega (arith, p .past, laid-long p, opening (s .pre .0), f .1, s .pre .2))
 
 enum-told-3 : tie.Need-enum-told-3
 enum-told-3 c = search needs
@@ -46,7 +47,7 @@ returns : tie.Need-returns
 returns c =
     let t = c .before .before .before .before in
     let p = t .before .before .before .before .put-all .ensures in
-    rw (t .enum-told .given .1) (and-then _ _ (p .0) (p .1) (c .before .before .show .ensures))
+    rw (t .enum-told .given .1) (laid-then _ _ _ _ _ _ _ _ p (c .before .before .show .ensures))
 
 same-length-2 : tie.Need-same-length-2
 same-length-2 c = search needs
@@ -55,7 +56,7 @@ returns-2 : tie.Need-returns-2
 returns-2 c =
     let t = c .before .before .before .before in
     let p = t .before .before .before .before .put-all .ensures in
-    rw (t .enum-told2 .given .1) (and-then _ _ (p .0) (p .1) (c .before .before .sign .ensures))
+    rw (t .enum-told2 .given .1) (laid-then _ _ _ _ _ _ _ _ p (c .before .before .sign .ensures))
 
 same-length-3 : tie.Need-same-length-3
 same-length-3 c = search needs
@@ -63,7 +64,7 @@ same-length-3 c = search needs
 returns-3 : tie.Need-returns-3
 returns-3 c =
     let p = c .before .before .before .before .put-all .ensures in
-    rw (c .enum-told3 .given .1) (and-no-more _ _ (p .0) (p .1))
+    rw (c .enum-told3 .given .1) (laid-then _ _ _ _ _ _ _ _ p (laid-none _ _))
 
 pub say-spec : {M : Type 1} → statement M
 say-spec =

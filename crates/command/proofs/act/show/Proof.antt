@@ -50,7 +50,7 @@ returns c =
     let a = x .before .before in
     let s = a .before .before .before in
     rw (← (shown-is (s .args .cell) (s .args .m .now) (s .pre .1) (s .pre .0) (a .at .ensures) (x .extent .ensures)))
-    (record { past = p .0; laid = p .1 })
+    p
 
 pub show-spec : {M : Type 1} → statement M
 show-spec =

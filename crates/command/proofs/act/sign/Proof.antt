@@ -1,6 +1,6 @@
 use native.Mathlib.Omega.{arith}
 use borrow.Author.Needs.{needs}
-use Rattle.laws.proofs.Bytes.{lay-trans}
+use Rattle.laws.proofs.Bytes.{laid-then}
 use Rattle.command.proofs.Doing.{image-long, item-room, item-few, signed-is}
 use Rattle.command.proofs.act.sign.Statement.{statement}
 use Rattle.command.proofs.act.sign.Tie as tie
@@ -54,10 +54,7 @@ returns c =
     let z = p .before .before .before .before in
     let s = z .before .before .before .before in
     rw (← (signed-is (s .args .cell) (s .args .m .now) (s .pre .0) (z .before .at .ensures) (z .size .ensures) (p .before .before .sum .ensures)))
-    (record {
-      past = omega (arith, p .put .ensures .0, q .put2 .ensures .0);
-      laid = lay-trans _ _ _ _ _ _ _ (p .put .ensures .1) (p .put .ensures .0) (q .put2 .ensures .1);
-    })
+    (laid-then _ _ _ _ _ _ _ _ (p .put .ensures) (q .put2 .ensures))
 
 pub sign-spec : {M : Type 1} → statement M
 sign-spec =

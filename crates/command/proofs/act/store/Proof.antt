@@ -35,7 +35,7 @@ returns c =
     let z = c .before .before .before .before .before .before in
     let p = z .before .before .before .before .before in
     c .before .before .mark .ensures
-    ∙ stored-is _ _ _ (p .before .before .at .ensures) (z .before .before .size .ensures) (p .put-all .ensures .0) (p .put-all .ensures .1) (z .put-zeros .ensures .1)
+    ∙ stored-is _ _ _ (p .before .before .at .ensures) (z .before .before .size .ensures) (p .put-all .ensures .past) (p .put-all .ensures .laid) (z .put-zeros .ensures .laid)
 
 pub store-spec : {M : Type 1} → statement M
 store-spec =

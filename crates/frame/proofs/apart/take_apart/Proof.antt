@@ -152,8 +152,8 @@ returns-8 c =
     let d = e .before .before .before in
     let l = long (d .before) in
     let is = work-contents (frameAt l) (low l) (high l) _ _ refl (d .decode .ensures) in
-    let n : p .put-all .result .at ≡ length (contentsOf (frameAt l)) = omega (arith, p .put-all .ensures .0, ap length is) in
-    filled _ _ _ _ _ (decided (e .before) true (eq-eqb _ _ (e .if7 .left))) refl n (p .put-all .ensures .1 ∙ ap (lay (outAt l) 0) is)
+    let n : p .put-all .result .at ≡ length (contentsOf (frameAt l)) = omega (arith, p .put-all .ensures .past, ap length is) in
+    filled _ _ _ _ _ (decided (e .before) true (eq-eqb _ _ (e .if7 .left))) refl n (p .put-all .ensures .laid ∙ ap (lay (outAt l) 0) is)
 
 pub take-apart-spec : {M : Type 1} → statement M
 take-apart-spec =

@@ -1,8 +1,12 @@
 -- Building meets its contract: the five steps of the cursor lay the frame. Assumes nothing.
-use mathlib.Core.Path.{refl}
+use mathlib.Core.Path.{_≡_, refl}
+use mathlib.Core.List.{List, [], _∷_}
+use Prim.Native.Nat.{ℕ, _*_}
 use native.Mathlib.Omega.{arith}
+use lib.ListN.{length}
 use Rattle.laws.proofs.Tests.{within-below, within-above}
-use Rattle.frame.proofs.Laid.{frame-laid, frame-end}
+use Rattle.frame.specs.Digits.{charsOf}
+use Rattle.frame.proofs.Laid.{length-chars, frame-laid}
 use Rattle.frame.proofs.Answers.{built-length, built-room, built-done, refused, filled}
 use Rattle.frame.proofs.building.build.Statement.{statement}
 use Rattle.frame.proofs.building.build.Tie as tie
@@ -31,14 +35,25 @@ put-requires c κs = omega arith
 put-chars-requires : tie.Need-put-chars-requires
 put-chars-requires c κs = omega arith
 
+-- two characters a byte, of the contents and of the checksum
+module _ (c : tie.After-put-chars) where
+  abbrev summed : tie.After-checksum
+  summed = c .before .before .before .before .before .before
+
+  abbrev contents : List ℕ
+  contents = summed .before .before .before .before .before .before .args .contents .now
+
+  chars : (length (charsOf contents) ≡ 2 * length contents) × (length (charsOf (summed .checksum .result ∷ [])) ≡ 2)
+  chars = (length-chars contents, length-chars (summed .checksum .result ∷ []))
+
 put-byte-requires : tie.Need-put-byte-requires
-put-byte-requires c κs = omega arith
+put-byte-requires c κs = omega (arith, chars (c .before .before .before))
 
 put-requires-2 : tie.Need-put-requires-2
-put-requires-2 c κs = omega arith
+put-requires-2 c κs = omega (arith, chars (c .before .before .before .before .before .before .before))
 
 put-requires-3 : tie.Need-put-requires-3
-put-requires-3 c κs = omega arith
+put-requires-3 c κs = omega (arith, chars (c .before .before .before .before .before .before .before .before .before .before .before))
 
 same-length : tie.Need-same-length
 same-length c = omega arith
@@ -55,8 +70,7 @@ returns-4 c =
     let a = t .before .before .before .before .before .args in
     let e = built-done (a .contents .now) (a .out .now) (t .before .before .if1 .left) (t .before .if2 .left) (t .if3 .left) in
     let l = frame-laid (a .contents .now) (a .out .now) _ _ _ _ _ _ _ _ _ _ _ (k .checksum .ensures) (p1 .put .ensures) (p2 .put-chars .ensures) (p3 .put-byte .ensures) (p4 .put2 .ensures) (p5 .put3 .ensures) in
-    let n = frame-end (a .contents .now) (a .out .now) _ _ _ _ _ _ _ _ _ _ _ (k .checksum .ensures) (p1 .put .ensures) (p2 .put-chars .ensures) (p3 .put-byte .ensures) (p4 .put2 .ensures) (p5 .put3 .ensures) in
-    filled _ _ _ _ _ e refl n l
+    filled _ _ _ _ _ e refl (omega (arith, l .past)) (l .laid)
 
 pub build-spec : {M : Type 1} → statement M
 build-spec =

@@ -1,8 +1,10 @@
+use mathlib.Core.Path.{sym}
 use native.Mathlib.Numerals.{add-one}
-use Rattle.laws.specs.Bytes.{lay, two}
+use Rattle.laws.specs.Bytes.{two}
 use native.Mathlib.Omega.{arith}
 use lib.ListN.{length-set}
 use borrow.Author.Needs.{needs}
+use Rattle.laws.proofs.Bytes.{lay-is}
 use Rattle.image.proofs.word.put_word.Statement.{statement}
 use Rattle.image.proofs.word.put_word.Tie as tie
 
@@ -25,8 +27,8 @@ same-length : tie.Need-same-length
 same-length c = search needs
 
 returns : tie.Need-returns
-unfolding lay two
-returns c = rw add-one
+unfolding two
+returns c = rw add-one (sym (lay-is _ _ _))
 
 pub put-word-spec : {M : Type 1} → statement M
 put-word-spec =

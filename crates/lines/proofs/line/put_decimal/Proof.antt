@@ -2,7 +2,8 @@ use mathlib.Core.Path.{ap}
 use mathlib.Core.List.{[], _∷_}
 use native.Mathlib.Omega.{arith}
 use lib.ListN.{length}
-use Rattle.lines.proofs.Lines.{laid-then, decimal-one, decimal-two}
+use Rattle.lines.proofs.Lines.{decimal-one, decimal-two}
+use Rattle.laws.proofs.Bytes.{laid-then}
 use borrow.Author.Needs.{needs}
 use Rattle.lines.proofs.line.put_decimal.Statement.{statement}
 use Rattle.lines.proofs.line.put_decimal.Tie as tie

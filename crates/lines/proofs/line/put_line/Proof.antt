@@ -1,7 +1,8 @@
 use mathlib.Core.List.{[], _∷_}
 use native.Mathlib.Omega.{arith}
 use Rattle.lines.specs.Lines.{lineOf}
-use Rattle.lines.proofs.Lines.{laid-then, length-line}
+use Rattle.lines.proofs.Lines.{length-line}
+use Rattle.laws.proofs.Bytes.{laid-then}
 use borrow.Author.Needs.{needs}
 use Rattle.lines.proofs.line.put_line.Statement.{statement}
 use Rattle.lines.proofs.line.put_line.Tie as tie

@@ -3,7 +3,9 @@ use mathlib.Core.List.{[], _∷_}
 use native.Mathlib.Omega.{arith}
 use lib.ListN.{length}
 use lib.Seq.{length-take-le}
-use Rattle.lines.proofs.Lines.{laid-none, laid-then, shown-none, shown-done, shown-short}
+use Rattle.lines.proofs.Lines.{shown-none, shown-done, shown-short}
+use Rattle.laws.proofs.Bytes.{laid-then}
+use Rattle.laws.proofs.Bytes.{laid-none}
 use borrow.Author.Needs.{needs}
 use Rattle.lines.proofs.line.put_shown.Statement.{statement}
 use Rattle.lines.proofs.line.put_shown.Tie as tie

@@ -35,13 +35,13 @@ loop-again : tie.Need-loop-again Inv-loop μ-loop
 loop-again c =
     let p = c .before .before in
     let d = p .before .before .before in
-    (omega arith, omega arith, omega arith, lay-more _ _ _ _ (_ ∷ []) _ _ _ (next _ _ (d .loop-test .taken)) (p .put .ensures .1) (p .put .ensures .0) (d .before .loop .inv .3))
+    (omega arith, omega arith, omega arith, lay-more _ _ _ _ (_ ∷ []) _ _ _ (next _ _ (d .loop-test .taken)) (p .put .ensures .laid) (p .put .ensures .past) (d .before .loop .inv .3))
 
 same-length : tie.Need-same-length Inv-loop μ-loop
 same-length c = omega arith
 
 returns : tie.Need-returns Inv-loop μ-loop
-returns c = (omega arith, lay-done _ _ _ _ (none-left _ _ (c .loop-test .left)) (c .before .loop .inv .3))
+returns c = record { past = omega arith; laid = lay-done _ _ _ _ (none-left _ _ (c .loop-test .left)) (c .before .loop .inv .3) }
 
 pub put-all-spec : {M : Type 1} → statement M
 put-all-spec =

@@ -1,6 +1,5 @@
-use native.Mathlib.Omega.{arith}
 use borrow.Author.Needs.{needs}
-use Rattle.laws.proofs.Bytes.{lay-trans}
+use Rattle.laws.proofs.Bytes.{laid-then}
 use Rattle.frame.specs.Digits.{charsOf}
 use Rattle.frame.proofs.cursor.Cursor.put_byte.Statement.{statement}
 use Rattle.frame.proofs.cursor.Cursor.put_byte.Tie as tie
@@ -25,7 +24,7 @@ unfolding charsOf
 returns c =
     let p2 = c .before .before in
     let p1 = p2 .before .before .before .before .before in
-    (omega arith, rw (← p1 .before .char-of .ensures, ← p2 .before .char-of2 .ensures) (lay-trans _ _ _ _ _ _ _ (p1 .put .ensures .1) (p1 .put .ensures .0) (p2 .put2 .ensures .1)))
+    rw (← p1 .before .char-of .ensures, ← p2 .before .char-of2 .ensures) (laid-then _ _ _ _ _ _ _ _ (p1 .put .ensures) (p2 .put2 .ensures))
 
 pub put-byte-spec : {M : Type 1} → statement M
 put-byte-spec =

@@ -6,7 +6,7 @@ use lib.ListN.{length, drop}
 use Rattle.laws.specs.Bytes.{lay}
 use Rattle.laws.proofs.Bytes.{lay-more, lay-done}
 use Rattle.frame.specs.Digits.{charsOf}
-use Rattle.frame.proofs.Laid.{chars-next, chars-done}
+use Rattle.frame.proofs.Laid.{chars-next, chars-done, length-chars}
 use Rattle.frame.proofs.cursor.Cursor.put_chars.Statement.{statement}
 use Rattle.frame.proofs.cursor.Cursor.put_chars.Tie as tie
 
@@ -36,13 +36,13 @@ unfolding charsOf
 loop-again c =
     let p = c .before .before in
     let d = p .before .before .before in
-    (omega arith, omega arith, omega arith, lay-more _ _ _ _ _ _ _ _ (chars-next _ _ (d .loop-test .taken)) (p .put-byte .ensures .1) (p .put-byte .ensures .0) (d .before .loop .inv .3))
+    (omega arith, omega arith, omega arith, lay-more _ _ _ _ _ _ _ _ (chars-next _ _ (d .loop-test .taken)) (p .put-byte .ensures .laid) (p .put-byte .ensures .past) (d .before .loop .inv .3))
 
 same-length : tie.Need-same-length Inv-loop μ-loop
 same-length c = omega arith
 
 returns : tie.Need-returns Inv-loop μ-loop
-returns c = (omega arith, lay-done _ _ _ _ (chars-done _ _ (c .loop-test .left)) (c .before .loop .inv .3))
+returns c = record { past = omega (arith, length-chars (c .before .before .before .before .args .src .now)); laid = lay-done _ _ _ _ (chars-done _ _ (c .loop-test .left)) (c .before .loop .inv .3) }
 
 pub put-chars-spec : {M : Type 1} → statement M
 put-chars-spec =

@@ -5,8 +5,7 @@ use Prim.Native.Nat.{_+_, _≤_}
 use native.Mathlib.Omega.{arith}
 use lib.ListN.{length}
 use Rattle.laws.specs.Bytes.{lay, zeros}
-use Rattle.laws.proofs.Bytes.{lay-more, lay-done}
-use Rattle.frame.proofs.Laid.{zeros-next, zeros-none}
+use Rattle.laws.proofs.Bytes.{lay-more, lay-done, zeros-next, zeros-none, length-zeros}
 use Rattle.frame.proofs.cursor.Cursor.put_zeros.Statement.{statement}
 use Rattle.frame.proofs.cursor.Cursor.put_zeros.Tie as tie
 
@@ -32,13 +31,13 @@ loop-again : tie.Need-loop-again Inv-loop μ-loop
 loop-again c =
     let p = c .before .before in
     let d = p .before .before in
-    (omega arith, omega arith, omega arith, lay-more _ _ _ _ (0 ∷ []) _ _ _ (zeros-next _ (d .loop-test .taken)) (p .put .ensures .1) (p .put .ensures .0) (d .before .loop .inv .3))
+    (omega arith, omega arith, omega arith, lay-more _ _ _ _ (0 ∷ []) _ _ _ (zeros-next _ (d .loop-test .taken)) (p .put .ensures .laid) (p .put .ensures .past) (d .before .loop .inv .3))
 
 same-length : tie.Need-same-length Inv-loop μ-loop
 same-length c = omega arith
 
 returns : tie.Need-returns Inv-loop μ-loop
-returns c = (omega arith, lay-done _ _ _ _ (zeros-none _ (c .loop-test .left)) (c .before .loop .inv .3))
+returns c = record { past = omega (arith, length-zeros (c .before .before .before .args .n)); laid = lay-done _ _ _ _ (zeros-none _ (c .loop-test .left)) (c .before .loop .inv .3) }
 
 pub put-zeros-spec : {M : Type 1} → statement M
 put-zeros-spec =
