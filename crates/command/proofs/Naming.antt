@@ -1,19 +1,19 @@
 -- Laws of naming: whatever a request's numbers name is like the first of its kind, so it is a cell or an item wherever that is. Assumes nothing.
 use mathlib.Core.Path.{_≡_, refl}
-use mathlib.Core.Logic.{⊎-elim}
 use mathlib.Core.List.{List}
-use mathlib.Core.Bool.{Bool, true, false, cond}
+use mathlib.Core.Bool.{Bool, true, false}
 use Prim.Native.Nat.{ℕ, _+_, _-_, _*_, _<_}
 use native.Mathlib.Omega.{arith}
 use lib.ListN.{length}
 use lib.Dec.{ltb, eqb}
-use borrow.Author.Tests.{eqb-true, lt-ltb, le-ltb}
+use borrow.Author.Tests.{eqb-true, lt-ltb}
 use Rattle.laws.specs.Checks.{within}
-use Rattle.laws.proofs.Tests.{and-both, or-either, within-is}
+use Rattle.laws.proofs.Tests.{and-both, within-is}
 use Rattle.image.specs.declared.cell.Cell.{Cell}
 use Rattle.image.specs.declared.cell.Cell.the-variants as Cells
 use Rattle.image.specs.declared.cell.Named.the-variants.{It}
-use Rattle.image.specs.Cell.{size, extent, isCell, isItem, when, constantsNamed, errorsNamed, isTable, place, tableNamed, partNamed}
+use Rattle.image.specs.Cell.{size, extent, isCell, isItem, when, constantsNamed, errorsNamed, isTable, tableNamed, partNamed}
+use Rattle.image.proofs.Places.{place-below}
 use Rattle.command.specs.Rules.{byte, rowsNamed}
 
 -- two stretches of one kind: they differ in their numbers alone
@@ -27,16 +27,6 @@ pub when-it : (t : Bool) (x d : Cell) → when t x ≡ It d → (t ≡ true) × 
 unfolding when
 when-it true x d e = (refl, cc)
 when-it false x d e = absurd (let z : _≡_ {A = ℕ} 0 1 = cc in omega arith)
-
-place-small : (t : ℕ) → isTable t ≡ true → place t < 16
-unfolding isTable place
-place-small t h = ⊎-elim main more (or-either _ _ h)
-  where
-    main : within 1 8 t ≡ true → cond (ltb t 9) (t - 1) (t - 3) < 16
-    main e = let p = within-is 1 8 t e in let b : ltb t 9 ≡ true = lt-ltb t 9 (omega arith) in rw b (omega arith)
-
-    more : within 11 18 t ≡ true → cond (ltb t 9) (t - 1) (t - 3) < 16
-    more e = let p = within-is 11 18 t e in let b : ltb t 9 ≡ false = le-ltb t 9 (omega arith) in rw b (omega arith)
 
 errors-alike : (k : ℕ) → k < 8 → Alike (Cells.Errors k) (Cells.Errors 0)
 errors-alike k h = record { cell = lt-ltb k 8 h; item = lt-ltb k 8 h; sized = refl; counted = λ b. refl }
@@ -57,7 +47,7 @@ module _ (d : Cell) (n : ℕ) where
   unfolding tableNamed
   table-named e =
       let p = when-it _ _ _ e in
-      rw (← (p .1)) (record { cell = refl; item = lt-ltb _ _ (place-small n (p .0)); sized = refl; counted = λ b. refl })
+      rw (← (p .1)) (record { cell = refl; item = lt-ltb _ _ (place-below n (p .0)); sized = refl; counted = λ b. refl })
 
   pub part-named : (q : ℕ) → partNamed n q ≡ It d → Alike d (Cells.Part 0 0)
   unfolding partNamed
@@ -66,7 +56,7 @@ module _ (d : Cell) (n : ℕ) where
       let b = and-both (isTable n) (within 1 11 q) (p .0) in
       let r = within-is 1 11 q (b .1) in
       let t : ltb (q - 1) 11 ≡ true = lt-ltb (q - 1) 11 (omega arith) in
-      rw (← (p .1)) (record { cell = rw (lt-ltb _ _ (place-small n (b .0)), t); item = refl; sized = refl; counted = λ b. refl })
+      rw (← (p .1)) (record { cell = rw (lt-ltb _ _ (place-below n (b .0)), t); item = refl; sized = refl; counted = λ b. refl })
 
 -- an error table, and a body that its count of rows fills
 abbrev pub Counted : List ℕ → Cell → Type 0

@@ -1,4 +1,3 @@
 pub mod Pieces
 pub mod Ran
 pub mod Portions
-pub mod Example

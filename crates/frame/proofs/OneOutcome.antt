@@ -6,7 +6,7 @@ use Prim.Native.Nat.{ℕ}
 use Rattle.frame.specs.declared.answer.Answer.{Answer}
 use Rattle.frame.specs.Frame.{After, Does}
 
-alike : (r s : Answer) → r .number ≡ s .number → r .len ≡ s .len → r ≡ s
+pub alike : (r s : Answer) → r .number ≡ s .number → r .len ≡ s .len → r ≡ s
 alike r s e f = ap₂ {C = Answer} (λ (n l : ℕ). record { number = n; len = l }) e f
 
 pub one-outcome : (a : After) (r s : Answer) (o p : List ℕ) → Does a r o → Does a s p → (r ≡ s) × (o ≡ p)

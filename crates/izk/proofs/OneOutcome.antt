@@ -1,10 +1,10 @@
 -- Each of the five promises leaves room for one outcome: two that meet it returned the same and left the same in every buffer. Assumes nothing.
-use mathlib.Core.Path.{_≡_, sym, ap₂, _∙_}
+use mathlib.Core.Path.{_≡_, sym, _∙_}
 use mathlib.Core.List.{List}
 use Prim.Native.Nat.{ℕ}
 use Rattle.frame.specs.declared.answer.Answer.{Answer}
 use Rattle.frame.specs.Frame.{Does, apart, built}
-use Rattle.frame.proofs.OneOutcome.{one-outcome}
+use Rattle.frame.proofs.OneOutcome.{alike, one-outcome}
 use Rattle.image.specs.declared.held.Held.{Held}
 use Rattle.image.specs.Held.{heldParts}
 use Rattle.image.specs.Image.{LaysOut, first, laidOut}
@@ -15,7 +15,7 @@ use Rattle.izk.specs.Block.{served}
 pub serve-one-outcome : (f m out : List ℕ) (r s : Answer) (m′ m″ o p : List ℕ) → Serves (served first f m out) r m′ o → Serves (served first f m out) s m″ p
     → (r ≡ s) × (m′ ≡ m″) × (o ≡ p)
 serve-one-outcome f m out r s m′ m″ o p x y = (
-  ap₂ (λ (i j : ℕ). record { number = i; len = j }) (x .number-is ∙ sym (y .number-is)) (x .len-is ∙ sym (y .len-is)),
+  alike r s (x .number-is ∙ sym (y .number-is)) (x .len-is ∙ sym (y .len-is)),
   x .image-is ∙ sym (y .image-is),
   x .out-is ∙ sym (y .out-is),
 )
