@@ -1,11 +1,3 @@
-pub mod Naming
-pub mod Filled
-pub mod Fit
-pub mod Numbers
-pub mod Warmth
-pub mod Touches
-pub mod Stores
 pub mod Commute
-pub mod Judging
 pub mod Doing
 pub mod Replying

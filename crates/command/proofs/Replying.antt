@@ -7,49 +7,53 @@ use Prim.Native.Nat.{ℕ, _+_, _≤_}
 use native.Mathlib.Omega.{arith}
 use lib.ListN.{length, getD, take, length-append}
 use lib.Seq.{take-length}
-use Rattle.laws.proofs.Bytes.{length-lay, lay-none, lay-take, part-most, length-two}
-use Rattle.frame.specs.declared.answer.Answer.{Answer}
-use Rattle.frame.specs.Frame as Frame
-use Rattle.frame.specs.Frame.{Does, built, written, frameOf}
+use Rattle.laws.proofs.Bytes.{length-lay, lay-none, lay-take, slice-most, length-two}
+use Rattle.output.specs.declared.answer.Answer.{Answer}
+use Rattle.output.specs.Cursor.{Laid}
+use Rattle.output.specs.Output.{OutputAfter, Does, written}
+use Rattle.frame.specs.Built.{built, frameOf}
 use Rattle.frame.proofs.Answers.{built-done}
 use Rattle.image.specs.declared.cell.Cell.{Cell}
-use Rattle.image.specs.Cell.{at, extent}
-use Rattle.image.specs.Image.{first, usable, signature}
-use Rattle.image.proofs.Usable.{facts}
-use Rattle.command.specs.declared.rule.Act.{Act}
-use Rattle.command.specs.declared.rule.Act.the-variants.{Show, Sign, Store}
-use Rattle.command.specs.declared.verdict.Verdict.{Verdict}
-use Rattle.command.specs.declared.verdict.Verdict.the-variants.{Refused, Accepted}
+use Rattle.image.specs.Cell.{offset, extent}
+use Rattle.image.specs.Usable.{usable, address}
+use Rattle.image.specs.Signature.{signature}
+use Rattle.image.proofs.UsableFacts.{facts, Usable}
+use Rattle.image.proofs.Elsewhere.{extent-fits}
+use Rattle.rules.specs.declared.rule.Act.the-variants.{Show, Sign, Store}
+use Rattle.rules.specs.declared.rule.Act.{Act}
+use Rattle.rules.specs.declared.verdict.Verdict.the-variants.{Refused, Accepted}
+use Rattle.rules.specs.declared.verdict.Verdict.{Verdict}
+use Rattle.rules.specs.Verdict.{recognised}
+use Rattle.rules.specs.Fits.{Fit, longest, FitAccepted}
+use Rattle.rules.proofs.Fit.{recognised-fits}
 use Rattle.command.specs.Act.{says}
-use Rattle.command.specs.Fits.{Fit, longest, FitAccepted}
-use Rattle.laws.specs.Bytes.{Laid}
-use Rattle.command.specs.Serve.{recognised, replyOf, replied, sent, Serves}
-use Rattle.command.proofs.Fit.{recognised-fits}
-use Rattle.command.proofs.Commute.{extent-fits}
+use Rattle.command.specs.Reply.{replyOf, replied, sent, Serves}
+use Rattle.command.specs.Reply.{replied, sent, Serves}
 use Rattle.command.proofs.Doing.{opening}
+use Rattle.image.specs.Version.{Version, current}
 
 -- ---- the verdict's cases
 
 module _ (a : ℕ) (c : List ℕ) {v : Verdict} (v-is : v ≡ recognised a c) where
-  pub accepted-fits : {e : ℕ} {act : Act} {d : Cell} → v ≡ Accepted e act d → FitAccepted e act d c
-  accepted-fits i = rw (sym v-is ∙ i) at (recognised-fits a c)
+  pub body-fits : {e : ℕ} {act : Act} {d : Cell} → v ≡ Accepted e act d → FitAccepted e act d c
+  body-fits i = rw (sym v-is ∙ i) at (recognised-fits a c)
 
-pub refused-sends : (c m out : List ℕ) {v : Verdict} {n : ℕ} → v ≡ recognised (getD m 5 0) c → v ≡ Refused n
-    → Serves (sent (replied first c m) out) (record { number = n; len = 0 }) m out
+pub refused-sends : (c m out : List ℕ) {v : Verdict} {n : ℕ} → v ≡ recognised (address m) c → v ≡ Refused n
+    → Serves (sent (replied current c m) out) (record { number = n; len = 0 }) m out
 refused-sends c m out v-is i = rw (sym v-is ∙ i) (record { number-is = refl; len-is = refl; image-is = refl; out-is = sym (lay-none out 0) })
 
 -- ---- an accepted body's reply
 
-says-few : (a : Act) (d : Cell) (c m : List ℕ) → usable first m ≡ true → Fit a d c → length (says first a d m) ≤ longest a d
-says-few Show d c m u f = omega (arith, part-most (at d) (extent d (getD m (at d) 0)) m, extent-fits first m (facts first m u) d f)
-says-few Sign d c m u f = omega (arith, length-two (signature first d m))
-says-few (Store k) d c m u f = omega arith
+pub says-most : (v : Version) (m : List ℕ) → Usable v m → (a : Act) (d : Cell) (c : List ℕ) → Fit a d c → length (says v a d m) ≤ longest a d
+says-most v m u Show d c f = omega (arith, slice-most (offset d) (extent d (getD m (offset d) 0)) m, extent-fits v m u d f)
+says-most v m u Sign d c f = omega (arith, length-two (signature v d m))
+says-most v m u (Store k) d c f = omega arith
 
-module _ {e : ℕ} {a : Act} {d : Cell} {c : List ℕ} (f : FitAccepted e a d c) (m : List ℕ) (u : usable first m ≡ true) where
-  pub reply-fits : (2 ≤ length (replyOf first e a d c m)) × (length (replyOf first e a d c m) ≤ 132)
+module _ {e : ℕ} {a : Act} {d : Cell} {c : List ℕ} (f : FitAccepted e a d c) (m : List ℕ) (u : usable current m ≡ true) where
+  pub reply-fits : (2 ≤ length (replyOf current e a d c m)) × (length (replyOf current e a d c m) ≤ 132)
   reply-fits =
-      let s = says-few a d c m u (f .act) in
-      let l = length-append (take (2 + e) c) (says first a d m) in
+      let s = says-most current m (facts current m u) a d c (f .act) in
+      let l = length-append (take (2 + e) c) (says current a d m) in
       (omega (arith, opening f), omega (arith, opening f, f .reply))
 
 -- ---- contents of a frame, laid at the start of a work array
@@ -71,8 +75,8 @@ module _ {bytes w w′ : List ℕ} {n : ℕ} (fits : (2 ≤ length bytes) × (le
   work-sends out left im g i does =
       let b : built (take n w′) out ≡ written out (frameOf bytes) = rw work-is (built-done bytes out (fits .0) (fits .1) (omega arith)) in
       record {
-        number-is = does .number-is ∙ ap (λ (x : Frame.After). x .number) b;
-        len-is = does .len-is ∙ ap (λ (x : Frame.After). x .len) b;
+        number-is = does .number-is ∙ ap (λ (x : OutputAfter). x .number) b;
+        len-is = does .len-is ∙ ap (λ (x : OutputAfter). x .len) b;
         image-is = i;
-        out-is = does .out-is ∙ ap (λ (x : Frame.After). x .out) b;
+        out-is = does .out-is ∙ ap (λ (x : OutputAfter). x .out) b;
       }

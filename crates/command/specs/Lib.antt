@@ -1,4 +1,2 @@
-pub mod Rules
 pub mod Act
-pub mod Fits
-pub mod Serve
+pub mod Reply

@@ -1,4 +1,5 @@
 // The desk program: serves the frames that stand on standard input, and prints a line for each.
+use image::IMAGE_LENGTH;
 use libc::STDIN_FILENO;
 use libc::STDOUT_FILENO;
 ghost use Prim.Native.Nat.{_≤_};
@@ -12,7 +13,7 @@ fn main() {
         io::write_all(STDOUT_FILENO, b"too long\n");
         return;
     }
-    let mut m = [0u8; 23753];
+    let mut m = [0u8; IMAGE_LENGTH];
     izk::fresh(&mut m, 1);
     let mut text = io::large_buffer();
     print_all(&input[..n], &mut m, &mut text);

@@ -11,12 +11,13 @@ use lib.Seq.{take-at, length-take-le}
 use lib.Dec.{leb}
 use borrow.Author.Tests.{leb-true, le-ltb}
 use Rattle.laws.specs.Bytes.{lay}
-use Rattle.laws.proofs.Bytes.{length-lay, lay-between}
 use Rattle.laws.proofs.Walks.{none-left}
-use Rattle.image.specs.Image.{Version, first, fresh}
-use Rattle.lines.specs.Lines.{pieces, endFrom}
-use Rattle.lines.proofs.Cuts.{pieceAt, piece-reaches, pieces-from}
-use Rattle.desk_run.specs.Desk.{printed, left, transcript, finally, deskText, Ran, stopped, ran}
+use Rattle.laws.proofs.Bytes.{length-lay, lay-between}
+use Rattle.text.specs.Cut.{pieces, pieceEnd}
+use Rattle.text.proofs.Cuts.{pieceAt, piece-reaches, pieces-from}
+use Rattle.image.specs.Version.{Version, current}
+use Rattle.image.specs.Fresh.{fresh}
+use Rattle.desk_run.specs.Desk.{printed, left, transcript, deskText, Ran, stopped, ran}
 use Rattle.desk_run.proofs.Pieces.{printed-short}
 use Rattle.desk_run.proofs.Ran.{ran-grows, ran-onward}
 
@@ -27,15 +28,15 @@ module _ (v : Version) (input : List ℕ) where
   Turns : {A : Type 0} → (ℕ → ℕ → List ℕ → List ℕ → A) → Type 0
   Turns K =
       (from at : ℕ) (m text : List ℕ) → from < length input → at + 300 ≤ length text
-      → K (endFrom from input) (at + length (printed v m (pieceAt from input))) (left v m (pieceAt from input)) (lay text at (printed v m (pieceAt from input))) ≡ K from at m text
+      → K (pieceEnd from input) (at + length (printed v m (pieceAt from input))) (left v m (pieceAt from input)) (lay text at (printed v m (pieceAt from input))) ≡ K from at m text
 
   -- the first of the pieces from an index on
   first-of : (from : ℕ) (p : List ℕ) (ps : List (List ℕ)) → p ∷ ps ≡ pieces (drop from input)
-      → (from < length input) × (p ≡ pieceAt from input) × (ps ≡ pieces (drop (endFrom from input) input))
+      → (from < length input) × (p ≡ pieceAt from input) × (ps ≡ pieces (drop (pieceEnd from input) input))
   unfolding pieces
   first-of from p ps e = go (decLt from (length input))
     where
-      go : Dec (from < length input) → (from < length input) × (p ≡ pieceAt from input) × (ps ≡ pieces (drop (endFrom from input) input))
+      go : Dec (from < length input) → (from < length input) × (p ≡ pieceAt from input) × (ps ≡ pieces (drop (pieceEnd from input) input))
       go (yes h) = let q = e ∙ pieces-from input from h in (h, cc, cc)
       go (no h) = let q : p ∷ ps ≡ [] = rw (none-left input from (omega arith)) at e in absurd (let z : _≡_ {A = ℕ} 0 1 = cc in omega arith)
 
@@ -46,12 +47,12 @@ module _ (v : Version) (input : List ℕ) where
   ran-keeps {A} K keeps (p ∷ ps) from at m text e = go _ (leb (at + 300) (length text)) refl (first-of from p ps e) (λ f. ran-keeps K keeps ps (from + length p) (at + length (printed v m p)) (left v m p) (lay text at (printed v m p)) f)
     where
       go : (r : Ran) (t : Bool) → leb (at + 300) (length text) ≡ t
-          → (from < length input) × (p ≡ pieceAt from input) × (ps ≡ pieces (drop (endFrom from input) input))
+          → (from < length input) × (p ≡ pieceAt from input) × (ps ≡ pieces (drop (pieceEnd from input) input))
           → (ps ≡ pieces (drop (from + length p) input) → K (r .from) (r .len) (r .image) (r .text) ≡ K (from + length p) (at + length (printed v m p)) (left v m p) (lay text at (printed v m p)))
           → K (cond t r (stopped from at m text) .from) (cond t r (stopped from at m text) .len) (cond t r (stopped from at m text) .image) (cond t r (stopped from at m text) .text) ≡ K from at m text
       go r false h f ih = refl
       go r true h f ih =
-          let to : from + length p ≡ endFrom from input = rw (f .1) (piece-reaches input from (f .0)) in
+          let to : from + length p ≡ pieceEnd from input = rw (f .1) (piece-reaches input from (f .0)) in
           ih (rw to (f .2)) ∙ rw (to, f .1) (keeps from at m text (f .0) (leb-true _ _ h))
 
 -- ---- what a call leaves
@@ -75,14 +76,6 @@ module _ (v : Version) (input : List ℕ) where
   ran-remains from at m text =
       ran-keeps v input (λ f k n t. take k t ++ transcript v n (pieces (drop f input)))
       (λ f k n t h g. rw (take-laid k t (printed v n (pieceAt f input)) (omega (arith, printed-short v n (pieceAt f input))), pieces-from input f h, append-assoc)) _ from at m text refl
-
-  -- and so is the image after them
-  pub ran-finally : (from at : ℕ) (m text : List ℕ)
-      → finally v (ran v from at m text (pieces (drop from input)) .image) (pieces (drop (ran v from at m text (pieces (drop from input)) .from) input))
-      ≡ finally v m (pieces (drop from input))
-  unfolding Turns finally
-  ran-finally from at m text =
-      ran-keeps v input (λ f k n t. finally v n (pieces (drop f input))) (λ f k n t h g. rw (pieces-from input f h)) _ from at m text refl
 
 -- ---- calling it again
 
@@ -108,6 +101,6 @@ portions-print (suc n) v input from m text h g =
     go (no l) = omega (arith, ran-grows v from 0 m text (pieces (drop from input)))
 
 -- an input that is not too long, on a fresh image
-pub desk-prints : (input text : List ℕ) → 300 ≤ length text → length input ≤ 65536 → portions 65536 first input 0 (fresh first 1) text ≡ deskText input
+pub desk-prints : (input text : List ℕ) → 300 ≤ length text → length input ≤ 65536 → portions 65536 current input 0 (fresh current 1) text ≡ deskText input
 unfolding deskText
-desk-prints input text h g = rw (le-ltb _ _ g) (portions-print 65536 first input 0 (fresh first 1) text h (omega arith))
+desk-prints input text h g = rw (le-ltb _ _ g) (portions-print 65536 current input 0 (fresh current 1) text h (omega arith))

@@ -8,12 +8,12 @@ use native.Mathlib.Omega.{arith}
 use lib.ListN.{length, take, drop}
 use lib.Dec.{leb}
 use borrow.Author.Tests.{le-leb, lt-leb}
-use Rattle.laws.specs.Bytes.{part, lay}
+use Rattle.laws.specs.Bytes.{slice, lay}
 use Rattle.laws.proofs.Walks.{none-left}
-use Rattle.image.specs.Image.{Version, first}
-use Rattle.lines.specs.Lines.{pieces, endFrom}
-use Rattle.laws.specs.Bytes.{Laid}
-use Rattle.lines.proofs.Cuts.{pieceAt, end-past, piece-reaches, pieces-from}
+use Rattle.output.specs.Cursor.{Laid}
+use Rattle.text.specs.Cut.{pieces, pieceEnd}
+use Rattle.text.proofs.Cuts.{pieceAt, end-past, piece-reaches, pieces-from}
+use Rattle.image.specs.Version.{Version, current}
 use Rattle.desk_run.specs.Desk.{printed, left, Ran, stopped, ran, Runs}
 
 module _ (v : Version) (from at : ℕ) (m text : List ℕ) where
@@ -29,16 +29,16 @@ module _ (v : Version) (from at : ℕ) (m text : List ℕ) where
 
     pub ran-turn : from < length input → at + 300 ≤ length text
         → ran v from at m text (pieces (drop from input))
-        ≡ ran v (endFrom from input) (at + length (printed v m (pieceAt from input))) (left v m (pieceAt from input)) (lay text at (printed v m (pieceAt from input)))
-        (pieces (drop (endFrom from input) input))
+        ≡ ran v (pieceEnd from input) (at + length (printed v m (pieceAt from input))) (left v m (pieceAt from input)) (lay text at (printed v m (pieceAt from input)))
+        (pieces (drop (pieceEnd from input) input))
     unfolding ran
     ran-turn h g = rw (pieces-from input from h, le-leb _ _ g, piece-reaches input from h)
 
 -- the same with the names that the code has for what a turn leaves
 pub ran-again : (v : Version) (from to at at′ : ℕ) (m m′ text text′ input : List ℕ) (R : Ran) → from < length input → at + 300 ≤ length text
-    → to ≡ endFrom from input → Laid at at′ text text′ (printed v m (take (to - from) (drop from input))) → m′ ≡ left v m (take (to - from) (drop from input))
+    → to ≡ pieceEnd from input → Laid at at′ text text′ (printed v m (take (to - from) (drop from input))) → m′ ≡ left v m (take (to - from) (drop from input))
     → ran v from at m text (pieces (drop from input)) ≡ R → ran v to at′ m′ text′ (pieces (drop to input)) ≡ R
-unfolding part
+unfolding slice
 ran-again v from to at at′ m m′ text text′ input R h g e l i inv = rw (l .past, l .laid, i, e) (sym (ran-turn v from at m text input h g) ∙ inv)
 
 -- ---- it gets on
@@ -57,19 +57,19 @@ pub ran-onward : (v : Version) (from at : ℕ) (m text input : List ℕ) → at 
     → from < ran v from at m text (pieces (drop from input)) .from
 ran-onward v from at m text input g h =
     rw (ran-turn v from at m text input h g)
-    (lt-of-lt-of-le (end-past input from h) (ran-grows v _ _ _ _ (pieces (drop (endFrom from input) input))))
+    (lt-of-lt-of-le (end-past input from h) (ran-grows v _ _ _ _ (pieces (drop (pieceEnd from input) input))))
 
 -- what the loop has found where it ends is what was promised
-pub runs-of : (from next at : ℕ) (m₀ m text₀ text input : List ℕ) → stopped next at m text ≡ ran first from 0 m₀ text₀ (pieces (drop from input))
+pub runs-of : (from next at : ℕ) (m₀ m text₀ text input : List ℕ) → stopped next at m text ≡ ran current from 0 m₀ text₀ (pieces (drop from input))
     → at ≤ length text → length text ≡ length text₀
-    → Runs (ran first from 0 m₀ text₀ (pieces (drop from input))) input from (record { from = next; len = at }) m text
+    → Runs (ran current from 0 m₀ text₀ (pieces (drop from input))) input from (record { from = next; len = at }) m text
 runs-of from next at m₀ m text₀ text input e h l =
-    let f : next ≡ ran first from 0 m₀ text₀ (pieces (drop from input)) .from = ap (λ (a : Ran). a .from) e in
+    let f : next ≡ ran current from 0 m₀ text₀ (pieces (drop from input)) .from = ap (λ (a : Ran). a .from) e in
     record {
       from-is = f;
       len-is = ap (λ (a : Ran). a .len) e;
       image-is = ap (λ (a : Ran). a .image) e;
       text-is = ap (λ (a : Ran). a .text) e;
       fits = h;
-      onward = λ g i. rw f (ran-onward first from 0 m₀ text₀ input (omega arith) i);
+      onward = λ g i. rw f (ran-onward current from 0 m₀ text₀ input (omega arith) i);
     }

@@ -1,43 +1,41 @@
 -- What the desk program prints (document 01, end of "Frames to hold the block to"). Assumes nothing.
-use Prim.Native.Nat.{ℕ, _+_, _≤_, _<_}
-use Prim.Native.String.{String}
 use mathlib.Core.Path.{_≡_}
 use mathlib.Core.List.{List, [], _∷_, _++_}
 use mathlib.Core.Bool.{cond}
+use Prim.Native.Nat.{ℕ, _+_, _≤_, _<_}
+use Prim.Native.String.{String}
 use lib.ListN.{length, take}
 use lib.Dec.{leb, ltb}
-use Rattle.laws.specs.Bytes.{lay, zeros}
-use Rattle.image.specs.Image.{Version, first, fresh}
+use Rattle.laws.specs.Bytes.{lay, zeros, codes}
+use Rattle.text.specs.Cut.{pieces}
+use Rattle.image.specs.Version.{Version, current}
+use Rattle.image.specs.Fresh.{fresh}
 use Rattle.izk.specs.Block.{served}
-use Rattle.izk.specs.Frames.{codes}
-use Rattle.lines.specs.Lines.{pieces, lineOf}
 use Rattle.desk_run.specs.declared.turns.Progress.{Progress}
+use Rattle.desk_run.specs.Line.{lineOf}
+use Rattle.izk.specs.Heard.{heard}
 
 -- ---- the whole text
 
 -- a piece served with an output of its own: what is printed for it, and the image after it
 unfoldable pub printed : Version → List ℕ → List ℕ → List ℕ
-printed v m p = let a = served v p m (zeros 269) in lineOf (a .number) (take (a .len) (a .out))
+printed v m p = let a = served heard v p m (zeros 269) in lineOf (a .number) (take (a .len) (a .out))
 
 unfoldable pub left : Version → List ℕ → List ℕ → List ℕ
-left v m p = served v p m (zeros 269) .image
+left v m p = served heard v p m (zeros 269) .image
 
 -- the pieces in turn, on one image
 unfoldable pub transcript : Version → List ℕ → List (List ℕ) → List ℕ
 transcript v m [] = []
 transcript v m (p ∷ ps) = printed v m p ++ transcript v (left v m p) ps
 
-unfoldable pub finally : Version → List ℕ → List (List ℕ) → List ℕ
-finally v m [] = m
-finally v m (p ∷ ps) = finally v (left v m p) ps
-
 -- a text and the end of its line
 unfoldable pub line : String → List ℕ
 line s = codes s ++ (10 ∷ [])
 
--- the text for an input: at most 65,536 bytes are served, on an image that is fresh at address 1
+-- the text for an input: offset most 65,536 bytes are served, on an image that is fresh at address 1
 unfoldable pub deskText : List ℕ → List ℕ
-deskText input = cond (ltb 65536 (length input)) (line "too long") (transcript first (fresh first 1) (pieces input))
+deskText input = cond (ltb 65536 (length input)) (line "too long") (transcript current (fresh current 1) (pieces input))
 
 -- ---- the text in portions, as the program has no room for all of it
 

@@ -1,4 +1,5 @@
 // Serving the pieces of an input in turn, into a text that is handed out in portions: what the desk program does between reading and writing.
+mod line;
 mod piece;
 mod turns;
 

@@ -1,10 +1,10 @@
 // The pieces in turn, as far as the text has room.
 ghost use lib.ListN.{drop};
-ghost use Rattle.image.specs.Image.{first};
-ghost use Rattle.lines.specs.Lines.{pieces};
+ghost use Rattle.text.specs.Cut.{pieces};
+ghost use Rattle.image.specs.Version.{current};
 ghost use Rattle.desk_run.specs.Desk.{ran, Runs};
 use crate::piece::put_piece;
-use frame::Cursor;
+use output::Cursor;
 
 // Where in the input the serving stopped, and how much text there is.
 pub struct Progress {
@@ -14,7 +14,7 @@ pub struct Progress {
 
 // To be called again from where it stopped, until that is the input's end.
 pub fn run(input: &[u8], from: usize, m: &mut [u8], text: &mut [u8]) -> Progress
-    ensures { λ r. ⌜ Runs (ran first from 0 (now (m .entry)) (now (text .entry)) (pieces (drop from (now (input .entry))))) (now (input .entry)) from
+    ensures { λ r. ⌜ Runs (ran current from 0 (now (m .entry)) (now (text .entry)) (pieces (drop from (now (input .entry))))) (now (input .entry)) from
         r (now (m .exit)) (now (text .exit)) ⌝ }
 {
     let mut next = from;
@@ -26,7 +26,7 @@ pub fn run(input: &[u8], from: usize, m: &mut [u8], text: &mut [u8]) -> Progress
                 len: end.at,
             };
         }
-        let stop = lines::piece_end(input, next);
+        let stop = text::piece_end(input, next);
         end = put_piece(end, text, m, &input[next..stop]);
         next = stop;
     }

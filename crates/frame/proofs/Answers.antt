@@ -7,12 +7,12 @@ use native.Mathlib.Omega.{arith}
 use lib.ListN.{length, getD}
 use lib.Dec.{eqb}
 use borrow.Author.Tests.{le-leb, lt-leb, eq-eqb, ne-eqb, eqb-true}
-use Rattle.laws.specs.Bytes.{lay}
 use Rattle.laws.specs.Checks.{judged, within}
 use Rattle.laws.proofs.Tests.{and-both, within-is, within-in, within-below, within-above}
-use Rattle.frame.specs.declared.answer.Answer.{Answer}
+use Rattle.output.specs.Output.{refuse, written}
 use Rattle.frame.specs.Digits.{allDigits}
-use Rattle.frame.specs.Frame.{After, refuse, written, Does, lengthOk, endsOk, inner, contentsOf, sumOk, frameChecks, apart, frameOf, built}
+use Rattle.frame.specs.Apart.{lengthOk, endsOk, inner, contentsOf, sumOk, frameChecks, apart}
+use Rattle.frame.specs.Built.{frameOf, built}
 
 -- ---- the length
 
@@ -107,11 +107,3 @@ module _ (c out : List ℕ) where
   pub built-done : 2 ≤ length c → length c ≤ 132 → 2 * length c + 5 ≤ length out → built c out ≡ written out (frameOf c)
   unfolding built judged
   built-done h g l = rw (within-in 2 132 _ h g, le-leb _ _ l)
-
--- ---- an answer that was given
-
-pub refused : (a : After) (r : Answer) (out : List ℕ) (n : ℕ) → a ≡ refuse out n → r .number ≡ n → r .len ≡ 0 → Does a r out
-refused a r out n e h g = record { number-is = rw e h; len-is = rw e g; out-is = rw e }
-
-pub filled : (a : After) (r : Answer) (out left bytes : List ℕ) → a ≡ written out bytes → r .number ≡ 0 → r .len ≡ length bytes → left ≡ lay out 0 bytes → Does a r left
-filled a r out left bytes e h g l = record { number-is = rw e h; len-is = rw e g; out-is = rw e l }

@@ -5,10 +5,10 @@ use Prim.Native.Nat.{ℕ, _-_, _/_, _≤_}
 use native.Mathlib.Omega.{arith}
 use lib.ListN.{length, getD, take, drop}
 use lib.Dec.{eqb}
-use Rattle.laws.specs.Bytes.{part, lay}
-use Rattle.laws.proofs.Bytes.{length-part, part-is, lay-take, lay-at}
+use Rattle.laws.specs.Bytes.{slice, lay}
+use Rattle.laws.proofs.Bytes.{length-slice, slice-is, lay-take, lay-at}
 use Rattle.frame.specs.Digits.{bytesOf, checksumOf}
-use Rattle.frame.specs.Frame.{inner, bodyOf, contentsOf, sumOk}
+use Rattle.frame.specs.Apart.{inner, bodyOf, contentsOf, sumOk}
 
 length-bytes : (s : List ℕ) → length (bytesOf s) ≡ length s / 2
 unfolding bytesOf
@@ -19,11 +19,11 @@ length-bytes (x ∷ (y ∷ s)) = let e = length-bytes s in omega arith
 module _ (f : List ℕ) (low : 9 ≤ length f) where
   pub chars-are : take (length f - 2 - 1) (drop 1 f) ≡ inner f
   unfolding inner
-  chars-are = part-is 1 (length f - 2) (length f - 3) f (omega arith)
+  chars-are = slice-is 1 (length f - 2) (length f - 3) f (omega arith)
 
   pub length-inner : length (inner f) ≡ length f - 3
   unfolding inner
-  length-inner = length-part 1 (length f - 3) f (omega arith)
+  length-inner = length-slice 1 (length f - 3) f (omega arith)
 
   pub length-body : length (bodyOf f) ≡ (length f - 3) / 2
   unfolding bodyOf
@@ -31,7 +31,7 @@ module _ (f : List ℕ) (low : 9 ≤ length f) where
 
   pub length-contents : length (contentsOf f) ≡ (length f - 3) / 2 - 1
   unfolding contentsOf
-  length-contents = length-part 0 (length (bodyOf f) - 1) (bodyOf f) (omega arith) ∙ ap (λ (n : ℕ). n - 1) length-body
+  length-contents = length-slice 0 (length (bodyOf f) - 1) (bodyOf f) (omega arith) ∙ ap (λ (n : ℕ). n - 1) length-body
 
   module _ (high : length f ≤ 269) (z work : List ℕ) (long : length z ≡ 133) (is : work ≡ lay z 0 (bytesOf (take (length f - 2 - 1) (drop 1 f)))) where
     is-body : work ≡ lay z 0 (bodyOf f)
@@ -39,7 +39,7 @@ module _ (f : List ℕ) (low : 9 ≤ length f) where
     is-body = is ∙ ap (λ (s : List ℕ). lay z 0 (bytesOf s)) chars-are
 
     pub work-contents : take ((length f - 3) / 2 - 1) work ≡ contentsOf f
-    unfolding contentsOf part
+    unfolding contentsOf slice
     work-contents =
         let h = length-body in
         rw (is-body, ← length-body) (lay-take z (bodyOf f) (omega arith) (length (bodyOf f) - 1) (omega arith))

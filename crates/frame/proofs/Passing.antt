@@ -10,8 +10,9 @@ use borrow.Author.Tests.{leb-true}
 use Rattle.laws.specs.Checks.{Check, check, judged, firstFailing, risingFrom}
 use Rattle.laws.proofs.Checks as Checks
 use Rattle.laws.proofs.Checks.{AllPass, Judged, judge, judged-map, judged-passed, none-fails}
+use Rattle.output.specs.Output.{OutputAfter, refuse, written}
 use Rattle.frame.specs.Digits.{allDigits}
-use Rattle.frame.specs.Frame.{After, refuse, written, endsOk, inner, contentsOf, sumOk, frameChecks, apart}
+use Rattle.frame.specs.Apart.{endsOk, inner, contentsOf, sumOk, frameChecks, apart}
 use Rattle.frame.proofs.Body.{length-contents}
 use Rattle.frame.proofs.Answers.{length-is, apart-checked}
 
@@ -73,5 +74,5 @@ pub taken-0 : (f out : List ℕ) → apart f out .number ≡ 0 → (132 ≤ leng
 unfolding apart firstFailing risingFrom
 taken-0 f out z =
     let cs : List Check = check 2 (leb 132 (length out)) ∷ frameChecks f in
-    let p : AllPass cs = none-fails 1 cs (rising f) (sym (judged-map (λ (a : After). a .number) (refuse out) cs (written out (contentsOf f))) ∙ z) in
+    let p : AllPass cs = none-fails 1 cs (rising f) (sym (judged-map (λ (a : OutputAfter). a .number) (refuse out) cs (written out (contentsOf f))) ∙ z) in
     (leb-true 132 (length out) (p .0), p .1)

@@ -7,12 +7,14 @@ use native.Mathlib.Omega.{arith}
 use lib.ListN.{length, getD, take, drop, length-append, take-append-drop}
 use lib.Seq.{take-at, getD-at, getD-append-add, take-suc, take-all, take-add, drop-length}
 use borrow.Author.Tests.{eq-eqb, eqb-true}
-use Rattle.laws.specs.Bytes.{part}
-use Rattle.laws.proofs.Checks.{AllPass}
+use Rattle.laws.specs.Bytes.{slice}
 use Rattle.laws.proofs.Walks.{next2}
+use Rattle.laws.proofs.Checks.{AllPass}
+use Rattle.output.specs.Output.{written}
 use Rattle.frame.specs.Digits.{allDigits, charsOf, checksumOf}
-use Rattle.frame.specs.Frame.{written, lengthOk, endsOk, inner, bodyOf, contentsOf, sumOk, frameChecks, apart, frameOf, built}
-use Rattle.frame.proofs.Laid.{length-chars, length-frame}
+use Rattle.frame.specs.Apart.{lengthOk, endsOk, inner, bodyOf, contentsOf, sumOk, frameChecks, apart}
+use Rattle.frame.specs.Built.{frameOf, built}
+use Rattle.frame.proofs.FrameLaid.{length-chars, length-frame}
 use Rattle.frame.proofs.Body.{length-inner, length-body}
 use Rattle.frame.proofs.Answers.{length-right, ends-are, ends-third, built-done}
 use Rattle.frame.proofs.Coding.{Bytes, digits-chars, bytes-chars, chars-bytes}
@@ -36,7 +38,7 @@ bytes-whole (x ∷ c) b s h (suc k) = bytes-whole c b s (λ j. h (suc j)) k
 
 module _ (c : List ℕ) where
   inner-frame : inner (frameOf c) ≡ charsOf (body c)
-  unfolding inner part frameOf body
+  unfolding inner slice frameOf body
   inner-frame =
       let e : length (frameOf c) - 3 ≡ length (charsOf (body c)) = omega (arith, length-frame c, length-chars (body c), length-whole c) in
       rw e (take-at (charsOf (body c)) (13 ∷ (10 ∷ [])) _ refl)
@@ -62,7 +64,7 @@ module _ (c : List ℕ) where
     body-frame = rw inner-frame (bytes-chars (body c) whole)
 
     pub contents-frame : contentsOf (frameOf c) ≡ c
-    unfolding contentsOf part body
+    unfolding contentsOf slice body
     contents-frame =
         let e : length (body c) - 1 ≡ length c = omega (arith, length-whole c) in
         rw (body-frame, e) (take-at c (checksumOf c ∷ []) (length c) refl)
@@ -102,7 +104,7 @@ module _ (f : List ℕ) (p : AllPass (frameChecks f)) where
       next2 f (length f - 2) h ∙ rw (i, j, e .1, e .2, drop-length f)
 
   head-is : take (length f - 2) f ≡ 58 ∷ inner f
-  unfolding inner part
+  unfolding inner slice
   head-is =
       let l = passed-length f p in
       let e : length f - 2 ≡ 1 + (length f - 3) = omega arith in
@@ -113,7 +115,7 @@ module _ (f : List ℕ) (p : AllPass (frameChecks f)) where
   frame-is = sym (take-append-drop (length f - 2) f) ∙ rw (head-is, tail-is)
 
   body-is : contentsOf f ++ (checksumOf (contentsOf f) ∷ []) ≡ bodyOf f
-  unfolding sumOk contentsOf part
+  unfolding sumOk contentsOf slice
   body-is =
       let l = passed-length f p in
       let m : length (bodyOf f) ≡ length (bodyOf f) - 1 + 1 = omega (arith, length-body f (l .0)) in

@@ -1,7 +1,7 @@
 -- Characters and bytes, and the checksum (document 01, "The frame"). Assumes nothing.
-use Prim.Native.Nat.{ℕ, _+_, _-_, _*_, _/_, _%_}
 use mathlib.Core.List.{List, [], _∷_}
 use mathlib.Core.Bool.{Bool, true, cond, _&&_, _||_}
+use Prim.Native.Nat.{ℕ, _+_, _-_, _*_, _/_, _%_}
 use lib.Dec.{ltb}
 use Rattle.laws.specs.Bytes.{sumOf}
 use Rattle.laws.specs.Checks.{within}

@@ -1,2 +1,3 @@
 pub mod Digits
-pub mod Frame
+pub mod Apart
+pub mod Built

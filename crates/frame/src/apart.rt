@@ -2,12 +2,13 @@
 ghost use mathlib.Core.Path.{_≡_};
 ghost use Prim.Native.Nat.{_≤_};
 ghost use lib.ListN.{length};
-ghost use Rattle.frame.specs.Frame.{Does, apart, endsOk};
-use crate::answer::Answer;
-use crate::cursor::Cursor;
+ghost use Rattle.output.specs.Output.{Does};
+ghost use Rattle.frame.specs.Apart.{apart, endsOk};
 use crate::digits::all_digits;
 use crate::digits::checksum;
 use crate::digits::decode;
+use output::Answer;
+use output::Cursor;
 
 fn ends_ok(f: &[u8]) -> bool
     requires { ⌜ 2 ≤ length (now f) ⌝ }

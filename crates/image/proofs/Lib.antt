@@ -1,7 +1,12 @@
 pub mod Cells
-pub mod Usable
-pub mod Places
+pub mod UsableFacts
+pub mod Indices
 pub mod Words
 pub mod Missing
-pub mod Fresh
+pub mod FreshImage
 pub mod OneOutcome
+pub mod Stretches
+pub mod Touches
+pub mod Stores
+pub mod Elsewhere
+pub mod Storing

@@ -1,25 +1,25 @@
 -- The cells of document 01 ("Cells", "The image"): where each stands, how long it is, how a request names it, and all 195 of them.
 -- Assumes nothing.
-use Prim.Native.Nat.{ℕ, zero, suc, _+_, _-_, _*_}
 use mathlib.Core.List.{List, [], _∷_, _++_}
 use mathlib.Core.Bool.{Bool, true, false, cond, _&&_, _||_}
+use Prim.Native.Nat.{ℕ, zero, suc, _+_, _-_, _*_}
 use lib.Dec.{leb, ltb}
 use Rattle.laws.specs.Checks.{within}
-use Rattle.image.specs.declared.cell.Cell.{Cell}
 use Rattle.image.specs.declared.cell.Cell.the-variants.{Mask, Mode, Clock, Constants, Errors, Part, Table}
+use Rattle.image.specs.declared.cell.Cell.{Cell}
+use Rattle.image.specs.declared.cell.Named.the-variants as Named′
 use Rattle.image.specs.declared.cell.Named.{Named}
-use Rattle.image.specs.declared.cell.Named.the-variants.{Nothing, It}
 
 -- ---- where each stands
 
-abbrev pub at : Cell → ℕ
-at Mask = 6
-at Mode = 7
-at Clock = 8
-at (Constants c) = 49 + 83 * c
-at (Errors e) = 713 + 64 * e
-at (Part k p) = 1225 + 1408 * k + 128 * p
-at (Table k) = 1225 + 1408 * k
+abbrev pub offset : Cell → ℕ
+offset Mask = 6
+offset Mode = 7
+offset Clock = 8
+offset (Constants c) = 49 + 83 * c
+offset (Errors e) = 713 + 64 * e
+offset (Part k p) = 1225 + 1408 * k + 128 * p
+offset (Table k) = 1225 + 1408 * k
 
 abbrev pub size : Cell → ℕ
 size Mask = 1
@@ -89,7 +89,7 @@ cellsOf (Table k) = run (Part k) 0 11
 -- ---- how a request names one, by the numbers on the wire
 
 unfoldable pub when : Bool → Cell → Named
-when t d = cond t (It d) Nothing
+when t d = cond t (Named′.Cell d) Named′.Nothing
 
 -- channels of the constants are 0..7
 unfoldable pub constantsNamed : ℕ → Named
@@ -103,28 +103,20 @@ errorsNamed n = when (within 1 8 n) (Errors (n - 1))
 unfoldable pub isTable : ℕ → Bool
 isTable t = within 1 8 t || within 11 18 t
 
-unfoldable pub place : ℕ → ℕ
-place t = cond (ltb t 9) (t - 1) (t - 3)
+unfoldable pub tableIndex : ℕ → ℕ
+tableIndex t = cond (ltb t 9) (t - 1) (t - 3)
 
 unfoldable pub tableNamed : ℕ → Named
-tableNamed t = when (isTable t) (Table (place t))
+tableNamed t = when (isTable t) (Table (tableIndex t))
 
 -- parts are numbered 1..11
 unfoldable pub partNamed : ℕ → ℕ → Named
-partNamed t p = when (isTable t && within 1 11 p) (Part (place t) (p - 1))
+partNamed t p = when (isTable t && within 1 11 p) (Part (tableIndex t) (p - 1))
 
--- ---- tests of the whole list
+-- ---- a test of the whole list
 
 -- each ends before the next begins
 unfoldable pub rising : List Cell → Bool
 rising [] = true
 rising (c ∷ []) = true
-rising (c ∷ (d ∷ l)) = leb (at c + size c) (at d) && rising (d ∷ l)
-
-unfoldable pub all : (Cell → Bool) → List Cell → Bool
-all t [] = true
-all t (c ∷ l) = t c && all t l
-
--- a cell lies inside the image, behind mark, version and address, and off the words
-unfoldable pub inside : Cell → Bool
-inside c = leb 6 (at c) && (leb (at c + size c) 23753 && (leb (at c + size c) 17 || leb 49 (at c)))
+rising (c ∷ (d ∷ l)) = leb (offset c + size c) (offset d) && rising (d ∷ l)

@@ -1,13 +1,15 @@
 -- Which parts of a table are held (document 01, "The image", and its word's bits). Assumes nothing.
-use Prim.Native.Nat.{ℕ, zero, suc, _-_}
 use mathlib.Core.List.{List, [], _∷_}
 use mathlib.Core.Bool.{cond}
+use Prim.Native.Nat.{ℕ, zero, suc, _-_}
 use lib.Dec.{eqb}
 use Rattle.laws.specs.Checks.{check, judged}
 use Rattle.laws.specs.Bits.{bit, onesIn}
 use Rattle.image.specs.declared.held.Held.{Held}
-use Rattle.image.specs.Cell.{isTable, place}
-use Rattle.image.specs.Image.{Version, word, usable}
+use Rattle.image.specs.Version.{Version}
+use Rattle.image.specs.Cell.{isTable, tableIndex}
+use Rattle.image.specs.Words.{tableWord}
+use Rattle.image.specs.Usable.{usable}
 
 -- the least of the n parts from part p on whose bit, p - 1, is 0; 0 if there is none
 unfoldable pub missingFrom : ℕ → ℕ → ℕ → ℕ
@@ -26,4 +28,4 @@ abbrev pub unheld : ℕ → Held
 unheld n = record { number = n; parts = 0; missing = 0 }
 
 unfoldable pub heldParts : Version → List ℕ → ℕ → Held
-heldParts v m t = judged unheld (check 1 (usable v m) ∷ (check 10 (isTable t) ∷ [])) (heldOf (word m (place t)))
+heldParts v m t = judged unheld (check 1 (usable v m) ∷ (check 10 (isTable t) ∷ [])) (heldOf (tableWord m (tableIndex t)))

@@ -1,3 +1,8 @@
+pub mod Version
 pub mod Cell
-pub mod Image
+pub mod Words
+pub mod Usable
+pub mod Fresh
 pub mod Held
+pub mod Signature
+pub mod Stored

@@ -1,7 +1,7 @@
 // The cells of the image: where each stands, how long it is, and how a request's numbers name one.
 ghost use mathlib.Core.Path.{_≡_};
 ghost use mathlib.Core.Bool.{cond};
-ghost use Rattle.image.specs.Cell.{at, size, constantsNamed, errorsNamed, isTable, place, tableNamed, partNamed};
+ghost use Rattle.image.specs.Cell.{offset, size, constantsNamed, errorsNamed, isTable, tableIndex, tableNamed, partNamed};
 
 // What a command works on: one of the 195 cells, or all eleven parts of a table at once, which only its signature reads. Inside, numbers
 // count from 0: channels 0..7, error tables 0..7, tables 0..15 in image order, parts 0..10.
@@ -18,24 +18,24 @@ pub enum Cell {
 // What a request's numbers name.
 pub enum Named {
     Nothing,
-    It(Cell),
+    Cell(Cell),
 }
 
 impl Cell {
     // where each kind begins
-    pub const MASK_AT: usize = 6;
+    pub const MASK_OFFSET: usize = 6;
 
-    pub const MODE_AT: usize = 7;
+    pub const MODE_OFFSET: usize = 7;
 
-    pub const CLOCK_AT: usize = 8;
+    pub const CLOCK_OFFSET: usize = 8;
 
-    pub const WORDS_AT: usize = 17;
+    pub const WORDS_OFFSET: usize = 17;
 
-    pub const CONSTANTS_AT: usize = 49;
+    pub const CONSTANTS_OFFSET: usize = 49;
 
-    pub const ERRORS_AT: usize = 713;
+    pub const ERRORS_OFFSET: usize = 713;
 
-    pub const TABLES_AT: usize = 1225;
+    pub const TABLES_OFFSET: usize = 1225;
 
     // how many bytes one of a kind has
     pub const BYTE_SIZE: usize = 1;
@@ -74,7 +74,7 @@ impl Cell {
         ensures { λ r. ⌜ r ≡ constantsNamed channel ⌝ }
     {
         if channel < 8 {
-            Named::It(Cell::Constants(channel))
+            Named::Cell(Cell::Constants(channel))
         } else {
             Named::Nothing
         }
@@ -85,7 +85,7 @@ impl Cell {
         ensures { λ r. ⌜ r ≡ errorsNamed number ⌝ }
     {
         match number {
-            1..=8 => Named::It(Cell::Errors(number - 1)),
+            1..=8 => Named::Cell(Cell::Errors(number - 1)),
             _ => Named::Nothing,
         }
     }
@@ -93,9 +93,9 @@ impl Cell {
     pub fn table(number: u8) -> Named
         ensures { λ r. ⌜ r ≡ tableNamed number ⌝ }
     {
-        let k = place_of(number as u32);
+        let k = table_index(number as u32);
         if k < 16 {
-            Named::It(Cell::Table(k))
+            Named::Cell(Cell::Table(k))
         } else {
             Named::Nothing
         }
@@ -104,29 +104,29 @@ impl Cell {
     pub fn part(number: u8, part: u8) -> Named
         ensures { λ r. ⌜ r ≡ partNamed number part ⌝ }
     {
-        let k = place_of(number as u32);
+        let k = table_index(number as u32);
         if 16 <= k {
             return Named::Nothing;
         }
         match part {
-            1..=11 => Named::It(Cell::Part(k, part - 1)),
+            1..=11 => Named::Cell(Cell::Part(k, part - 1)),
             _ => Named::Nothing,
         }
     }
 
-    pub fn at(self) -> usize
-        ensures { λ r. ⌜ r ≡ at self ⌝ }
+    pub fn offset(self) -> usize
+        ensures { λ r. ⌜ r ≡ offset self ⌝ }
     {
         match self {
-            Cell::Mask => Cell::MASK_AT,
-            Cell::Mode => Cell::MODE_AT,
-            Cell::Clock => Cell::CLOCK_AT,
-            Cell::Constants(c) => Cell::CONSTANTS_AT + Cell::CONSTANTS_SIZE * (c as usize),
-            Cell::Errors(e) => Cell::ERRORS_AT + Cell::ERRORS_SIZE * (e as usize),
-            Cell::Part(k, p) => Cell::TABLES_AT
+            Cell::Mask => Cell::MASK_OFFSET,
+            Cell::Mode => Cell::MODE_OFFSET,
+            Cell::Clock => Cell::CLOCK_OFFSET,
+            Cell::Constants(c) => Cell::CONSTANTS_OFFSET + Cell::CONSTANTS_SIZE * (c as usize),
+            Cell::Errors(e) => Cell::ERRORS_OFFSET + Cell::ERRORS_SIZE * (e as usize),
+            Cell::Part(k, p) => Cell::TABLES_OFFSET
                 + Cell::TABLE_SIZE * (k as usize)
                 + Cell::PART_SIZE * (p as usize),
-            Cell::Table(k) => Cell::TABLES_AT + Cell::TABLE_SIZE * (k as usize),
+            Cell::Table(k) => Cell::TABLES_OFFSET + Cell::TABLE_SIZE * (k as usize),
         }
     }
 
@@ -146,8 +146,8 @@ impl Cell {
 }
 
 // Where a table stands among the sixteen, from 0; 16 for a number that no table has, however large.
-pub fn place_of(number: u32) -> u8
-    ensures { λ r. ⌜ r ≡ cond (isTable number) (place number) 16 ⌝ }
+pub fn table_index(number: u32) -> u8
+    ensures { λ r. ⌜ r ≡ cond (isTable number) (tableIndex number) 16 ⌝ }
 {
     match number {
         1..=8 => (number - 1) as u8,

@@ -1,11 +1,11 @@
 // Which parts of a table are held.
 use crate::cell::Cell;
-use crate::cell::place_of;
-use crate::judging::is_usable;
+use crate::cell::table_index;
+use crate::usable::is_usable;
 use crate::word::word_at;
 ghost use mathlib.Core.Path.{_≡_};
 ghost use Prim.Native.Nat.{_<_};
-ghost use Rattle.image.specs.Image.{first};
+ghost use Rattle.image.specs.Version.{current};
 ghost use Rattle.image.specs.Held.{heldOf, heldParts, unheld};
 
 // The number; how many parts are held; the lowest missing part, 0 if none is.
@@ -51,14 +51,14 @@ fn parts_of(w: u16) -> Held
 }
 
 pub fn held_parts(m: &[u8], table: u32) -> Held
-    ensures { λ r. ⌜ r ≡ heldParts first (now (m .entry)) table ⌝ }
+    ensures { λ r. ⌜ r ≡ heldParts current (now (m .entry)) table ⌝ }
 {
     if !is_usable(m) {
         return refused(1);
     }
-    let k = place_of(table);
+    let k = table_index(table);
     if 16 <= k {
         return refused(10);
     }
-    parts_of(word_at(m, Cell::WORDS_AT + Cell::WORD_SIZE * (k as usize)))
+    parts_of(word_at(m, Cell::WORDS_OFFSET + Cell::WORD_SIZE * (k as usize)))
 }

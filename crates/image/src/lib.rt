@@ -1,18 +1,24 @@
-// The image of document 01: its cells, when it is usable, a fresh one, the words and their bits, held parts, signatures.
+// The image of document 01: its cells, when it is usable, a fresh one, the words and their bits, held parts, signatures, and storing in a cell.
 mod cell;
+mod fresh;
 mod held;
-mod judging;
-mod laying;
 mod signature;
+mod stored;
+mod usable;
+mod version;
 mod word;
 
 pub use cell::Cell;
 pub use cell::Named;
+pub use fresh::freshen;
 pub use held::Held;
 pub use held::held_parts;
-pub use judging::is_usable;
-pub use laying::lay_out;
+pub use signature::signature_of;
 pub use signature::sum;
+pub use stored::store;
+pub use usable::is_usable;
+pub use version::IMAGE_LENGTH;
+pub use version::VERSION;
 pub use word::has_bit;
 pub use word::put_word;
 pub use word::set_bit;

@@ -1,9 +1,15 @@
-// The sum behind a signature, whatever the item's size.
+// An item's signature.
+use crate::cell::Cell;
+ghost use mathlib.Core.Bool.{true};
 ghost use mathlib.Core.Path.{_≡_};
 ghost use Prim.Native.Nat.{_%_, _≤_};
 ghost use lib.ListN.{length};
 ghost use Rattle.laws.specs.Bytes.{sumOf};
+ghost use Rattle.image.specs.Version.{current, imageLength};
+ghost use Rattle.image.specs.Cell.{isItem};
+ghost use Rattle.image.specs.Signature.{signature};
 
+// The sum behind it, whatever the item's size.
 pub fn sum(item: &[u8]) -> u16
     requires { ⌜ length (now item) ≤ 65536 ⌝ }
     ensures { λ r. ⌜ r ≡ sumOf (now (item .entry)) % 65536 ⌝ }
@@ -15,4 +21,13 @@ pub fn sum(item: &[u8]) -> u16
         i += 1;
     }
     (total % 65536) as u16
+}
+
+pub fn signature_of(cell: Cell, m: &[u8]) -> u16
+    requires { ⌜ (isItem cell ≡ true) × (length (now m) ≡ imageLength current) ⌝ }
+    ensures { λ r. ⌜ r ≡ signature current cell (now (m .entry)) ⌝ }
+{
+    let start = cell.offset();
+    let end = start + cell.size();
+    sum(&m[start..end])
 }

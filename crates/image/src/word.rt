@@ -3,7 +3,7 @@ ghost use mathlib.Core.Path.{_≡_};
 ghost use Prim.Native.Nat.{_+_, _/_, _%_, _<_, _≤_};
 ghost use lib.ListN.{length};
 ghost use lib.Dec.{eqb};
-ghost use Rattle.laws.specs.Bytes.{lay, two, pair};
+ghost use Rattle.laws.specs.Bytes.{lay, two, wordAt};
 ghost use Rattle.laws.specs.Bits.{bit, withBit};
 
 fn wide(b: u8) -> u16
@@ -15,7 +15,7 @@ fn wide(b: u8) -> u16
 // High byte first.
 pub fn word_at(m: &[u8], start: usize) -> u16
     requires { ⌜ start + 2 ≤ length (now m) ⌝ }
-    ensures { λ r. ⌜ r ≡ pair (now (m .entry)) start ⌝ }
+    ensures { λ r. ⌜ r ≡ wordAt (now (m .entry)) start ⌝ }
 {
     let high = wide(m[start]);
     let low = wide(m[start + 1]);

@@ -1,26 +1,29 @@
--- The table of frames holds: every definition of serving is computed on it. Assumes nothing.
+-- The examples hold: every definition of serving is computed on them. Assumes nothing.
 use mathlib.Core.Path.{_≡_, refl}
 use mathlib.Core.Bool.{true}
 use mathlib.Core.List.{[]}
-use Rattle.laws.specs.Bytes.{part, lay, zeros, padded, sumOf, two, pair}
-use Rattle.laws.specs.Checks.{judged, within, every}
+use Rattle.laws.specs.Bytes.{slice, lay, zeros, padded, sumOf, two, wordAt, codes}
+use Rattle.laws.specs.Checks.{judged, within, every, all, same}
 use Rattle.laws.specs.Bits.{withBit}
 use Rattle.frame.specs.Digits.{isDigit, allDigits, valueOf, charOf, charsOf, bytesOf, checksumOf}
-use Rattle.frame.specs.Frame.{lengthOk, endsOk, inner, bodyOf, contentsOf, sumOk, frameChecks, frameOf}
-use Rattle.image.specs.Cell.{when, constantsNamed, errorsNamed, isTable, place, tableNamed, partNamed}
-use Rattle.image.specs.Image.{headOk, countOk, word, wordOk, usable, fresh, fullSum}
-use Rattle.command.specs.Rules.{rowed, rowsNamed, blank, reserved, constantsOk, warmth, rises, clockOk, modeOk, table, lookup}
-use Rattle.command.specs.Act.{stored}
-use Rattle.command.specs.Serve.{tried, sought, recognised, heard, answered}
+use Rattle.frame.specs.Apart.{lengthOk, endsOk, inner, bodyOf, contentsOf, sumOk, frameChecks}
+use Rattle.frame.specs.Built.{frameOf}
+use Rattle.image.specs.Cell.{when, constantsNamed, errorsNamed, isTable, tableIndex, tableNamed, partNamed}
+use Rattle.image.specs.Words.{tableWord}
+use Rattle.image.specs.Usable.{markOk, addressOk, countOk, wordOk, usable}
+use Rattle.image.specs.Fresh.{fresh}
+use Rattle.image.specs.Signature.{fullSum}
+use Rattle.image.specs.Stored.{stored}
+use Rattle.rules.specs.Rules.{rowed, rowsNamed, zeroFrom, blank, constantsOk, warmth, rises, clockOk, modeOk, commands, ruleOf}
+use Rattle.rules.specs.Verdict.{tried, sought, recognised}
+use Rattle.izk.specs.Heard.{heard, answered}
 use Rattle.izk.specs.Block.{served}
-use Rattle.izk.specs.Frames as Table
-use Rattle.izk.specs.Frames.{codes, ended, same, on, after, right, hold, line}
+use Rattle.izk.specs.Frames.{ended, on, after, right, example, examples}
 
-pub frames-hold : hold Table.table ≡ true
-unfolding codes ended same on after right hold Table.table served answered heard recognised sought tried stored lookup table rowed rowsNamed blank reserved constantsOk warmth rises clockOk modeOk headOk countOk word wordOk usable fresh fullSum when constantsNamed errorsNamed isTable place tableNamed partNamed lengthOk endsOk inner bodyOf contentsOf sumOk frameChecks frameOf isDigit allDigits valueOf charOf charsOf bytesOf checksumOf withBit judged within every part lay zeros padded sumOf two pair
-frames-hold = refl
-
--- on the fresh image P11's frame has another reply than after P10, so that the table tells whether P10 was stored
-pub fresh-errors : right (line [] ":013F01BF" 0 ":013F0100BF" 0) ≡ true
-unfolding codes ended same on after right hold Table.table served answered heard recognised sought tried stored lookup table rowed rowsNamed blank reserved constantsOk warmth rises clockOk modeOk headOk countOk word wordOk usable fresh fullSum when constantsNamed errorsNamed isTable place tableNamed partNamed lengthOk endsOk inner bodyOf contentsOf sumOk frameChecks frameOf isDigit allDigits valueOf charOf charsOf bytesOf checksumOf withBit judged within every part lay zeros padded sumOf two pair
-fresh-errors = refl
+-- on the fresh image P11's frame has another reply than after P10, so that the examples tell whether P10 was stored
+pub examples-hold : (all right examples ≡ true) × (right (example [] ":013F01BF" 0 ":013F0100BF" 0) ≡ true)
+unfolding examples ended on after right served answered heard recognised sought tried ruleOf commands rowed rowsNamed zeroFrom blank constantsOk
+    warmth rises clockOk modeOk markOk addressOk countOk tableWord wordOk usable fresh fullSum stored when constantsNamed errorsNamed isTable
+    tableIndex tableNamed partNamed lengthOk endsOk inner bodyOf contentsOf sumOk frameChecks frameOf isDigit allDigits valueOf charOf charsOf
+    bytesOf checksumOf withBit judged within every all same slice lay zeros padded sumOf two wordAt codes
+examples-hold = (refl, refl)

@@ -1,65 +1,65 @@
 -- A part that is written twice counts once (document 01's fifth easy error): what writing a part does to its table's held parts. Assumes nothing.
 use mathlib.Core.Path.{_≡_, refl, sym, ap, _∙_}
-use mathlib.Core.Logic.{_⊎_, inl, inr}
+use mathlib.Core.Logic.{inl, inr}
 use mathlib.Core.List.{List}
 use mathlib.Core.Bool.{true}
-use Prim.Native.Nat.{ℕ, _+_, _-_, _≤_, _<_}
+use Prim.Native.Nat.{ℕ, _+_, _-_, _≤_}
 use native.Mathlib.Omega.{arith}
 use lib.Dec.{ltb}
-use lib.ListN.{length, getD, drop}
+use lib.ListN.{length, drop}
 use borrow.Author.Tests.{ltb-true}
 use Rattle.laws.specs.Checks.{judged}
 use Rattle.laws.specs.Bits.{bit, onesIn}
 use Rattle.laws.proofs.Tests.{and-both}
 use Rattle.laws.proofs.Bits.{ones-with}
-use Rattle.frame.specs.Frame.{contentsOf}
-use Rattle.image.specs.declared.cell.Cell.{Cell}
+use Rattle.frame.specs.Apart.{contentsOf}
 use Rattle.image.specs.declared.cell.Cell.the-variants.{Part}
-use Rattle.image.specs.Cell.{isTable, place}
-use Rattle.image.specs.Image.{Version, long, word, usable}
+use Rattle.image.specs.Version.{Version, imageLength}
+use Rattle.image.specs.Cell.{isTable, tableIndex}
+use Rattle.image.specs.Words.{tableWord}
+use Rattle.image.specs.Usable.{usable, address}
 use Rattle.image.specs.Held.{heldOf, heldParts}
-use Rattle.image.proofs.Usable.{facts}
-use Rattle.command.specs.declared.rule.Act.the-variants.{Store}
-use Rattle.command.specs.declared.verdict.Verdict.the-variants.{Accepted}
-use Rattle.command.specs.Act.{stored}
-use Rattle.command.specs.Fits.{FitStore}
-use Rattle.command.specs.Serve.{heard}
-use Rattle.command.proofs.Touches.{WordAfter}
-use Rattle.command.proofs.Stores.{word-stored, own-bit}
+use Rattle.image.specs.Stored.{stored, FitStore}
+use Rattle.image.proofs.UsableFacts.{facts}
+use Rattle.image.proofs.Touches.{WordAfter}
+use Rattle.image.proofs.Stores.{word-stored, own-bit}
+use Rattle.rules.specs.declared.rule.Act.the-variants.{Store}
+use Rattle.rules.specs.declared.verdict.Verdict.the-variants.{Accepted}
+use Rattle.izk.specs.Heard.{Hearing, Lawful}
 use Rattle.izk.specs.Block.{served}
 use Rattle.izk.proofs.Serving.{served-is, usable-stays}
 use Rattle.izk.proofs.Changes.{accepted-fits, accepted-leaves}
 
 -- of a usable image and a table, the count is of the word's ones
-held-is : (v : Version) (m : List ℕ) (t : ℕ) → usable v m ≡ true → isTable t ≡ true → heldParts v m t .parts ≡ onesIn 11 (word m (place t))
+held-is : (v : Version) (m : List ℕ) (t : ℕ) → usable v m ≡ true → isTable t ≡ true → heldParts v m t .parts ≡ onesIn 11 (tableWord m (tableIndex t))
 unfolding heldParts heldOf judged
 held-is v m t u i = rw (u, i)
 
 -- the count of a word with a part's bit set
 counted : (v : Version) (k p : ℕ) (bs m : List ℕ) → FitStore (Part k p) bs → usable v m ≡ true
-    → onesIn 11 (word (stored (Part k p) bs m) k) ≡ onesIn 11 (word m k) + (1 - bit (word m k) p)
+    → onesIn 11 (tableWord (stored v (Part k p) bs m) k) ≡ onesIn 11 (tableWord m k) + (1 - bit (tableWord m k) p)
 counted v k p bs m fit u = go (word-stored v (Part k p) bs fit m whole k (ltb-true k 16 (numbers .0)))
   where
-    whole : length m ≡ long v
+    whole : length m ≡ imageLength v
     whole = facts v m u .long-is
 
     numbers : (ltb k 16 ≡ true) × (ltb p 11 ≡ true)
     numbers = and-both (ltb k 16) (ltb p 11) (fit .cell)
 
-    go : WordAfter (Part k p) k (word m k) (word (stored (Part k p) bs m) k) → onesIn 11 (word (stored (Part k p) bs m) k) ≡ onesIn 11 (word m k) + (1 - bit (word m k) p)
+    go : WordAfter (Part k p) k (tableWord m k) (tableWord (stored v (Part k p) bs m) k) → onesIn 11 (tableWord (stored v (Part k p) bs m) k) ≡ onesIn 11 (tableWord m k) + (1 - bit (tableWord m k) p)
     go (inl e) =
-        let b : bit (word m k) p ≡ 1 = ap (λ (w : ℕ). bit w p) (sym e) ∙ own-bit v (Part k p) bs fit m whole k p refl in
+        let b : bit (tableWord m k) p ≡ 1 = ap (λ (w : ℕ). bit w p) (sym e) ∙ own-bit v (Part k p) bs fit m whole k p refl in
         rw (e, b) (omega arith)
     go (inr (q, same, l, e)) =
         let z : q ≡ p = cc in
-        rw (e, z) (ones-with 11 (word m k) p (ltb-true p 11 (numbers .1)))
+        rw (e, z) (ones-with 11 (tableWord m k) p (ltb-true p 11 (numbers .1)))
 
 -- the number of held parts grows by one if the part was missing, and stays if it was held
-pub part-counts-once : (v : Version) (f m out : List ℕ) (e n t p : ℕ) → isTable t ≡ true → heard (getD m 5 0) f ≡ Accepted e (Store n) (Part (place t) p)
+pub part-counts-once : (ear : Hearing) → Lawful ear → (v : Version) (f m out : List ℕ) (e n t p : ℕ) → isTable t ≡ true → ear (address m) f ≡ Accepted e (Store n) (Part (tableIndex t) p)
     → usable v m ≡ true → 269 ≤ length out
-    → heldParts v (served v f m out .image) t .parts ≡ heldParts v m t .parts + (1 - bit (word m (place t)) p)
-part-counts-once v f m out e n t p i h u r =
-    held-is v (served v f m out .image) t (usable-stays v f m out u) i
-    ∙ ap (λ (w : ℕ). onesIn 11 w) (ap (λ (x : List ℕ). word x (place t)) (ap (λ a. a .image) (served-is v f m out u r) ∙ accepted-leaves f m e (Store n) (Part (place t) p) h v))
-    ∙ counted v (place t) p (drop n (contentsOf f)) m (accepted-fits f m e (Store n) (Part (place t) p) h .act) u
-    ∙ ap (λ (c : ℕ). c + (1 - bit (word m (place t)) p)) (sym (held-is v m t u i))
+    → heldParts v (served ear v f m out .image) t .parts ≡ heldParts v m t .parts + (1 - bit (tableWord m (tableIndex t)) p)
+part-counts-once ear ok v f m out e n t p i h u r =
+    held-is v (served ear v f m out .image) t (usable-stays ear v f m out ok u) i
+    ∙ ap (λ (w : ℕ). onesIn 11 w) (ap (λ (x : List ℕ). tableWord x (tableIndex t)) (ap (λ a. a .image) (served-is ear v f m out u r) ∙ accepted-leaves ear f m e (Store n) (Part (tableIndex t) p) h v))
+    ∙ counted v (tableIndex t) p (drop n (contentsOf f)) m (accepted-fits ear f m e (Store n) (Part (tableIndex t) p) h ok .act) u
+    ∙ ap (λ (c : ℕ). c + (1 - bit (tableWord m (tableIndex t)) p)) (sym (held-is v m t u i))

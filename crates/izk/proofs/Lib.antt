@@ -1,5 +1,6 @@
 pub mod Frames
 pub mod Useless
+pub mod Hearing
 pub mod Serving
 pub mod Changes
 pub mod ReadBack

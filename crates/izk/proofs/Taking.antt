@@ -4,36 +4,40 @@ use mathlib.Core.Bool.{true}
 use mathlib.Core.List.{List}
 use Prim.Native.Nat.{ℕ, _≤_}
 use native.Mathlib.Omega.{arith}
-use lib.ListN.{length, getD, take}
+use lib.ListN.{length, take}
 use lib.Seq.{take-length}
 use Rattle.laws.proofs.Bytes.{length-lay, lay-none, lay-take}
 use Rattle.laws.proofs.Checks.{AllPass, judged-passed}
-use Rattle.frame.specs.declared.answer.Answer.{Answer}
-use Rattle.frame.specs.Frame.{Does, apart, contentsOf, frameChecks}
+use Rattle.output.specs.declared.answer.Answer.{Answer}
+use Rattle.output.specs.Output.{Does}
+use Rattle.frame.specs.Apart.{apart, contentsOf, frameChecks}
 use Rattle.frame.proofs.Passing.{Taken, passed, failed, taken, contents-length}
-use Rattle.image.specs.Image.{first, usable}
-use Rattle.command.specs.declared.verdict.Verdict.{Verdict}
-use Rattle.command.specs.declared.verdict.Verdict.the-variants.{Refused}
-use Rattle.command.specs.Serve.{recognised, heard, refusal, replied, answered, sent, Serves}
+use Rattle.image.specs.Version.{current}
+use Rattle.image.specs.Usable.{usable, address}
+use Rattle.rules.specs.declared.verdict.Verdict.the-variants.{Refused}
+use Rattle.rules.specs.declared.verdict.Verdict.{Verdict}
+use Rattle.rules.specs.Verdict.{recognised}
+use Rattle.command.specs.Reply.{refusal, replied, sent, Serves}
+use Rattle.izk.specs.Heard.{heard, answered}
 use Rattle.izk.specs.Block.{served}
 use Rattle.izk.proofs.Serving.{served-is}
 
 -- a refusal reports its number and length 0, and leaves both buffers
-pub refused-serves : (f m out : List ℕ) (n : ℕ) → served first f m out ≡ sent (refusal n m) out → Serves (served first f m out) (record { number = n; len = 0 }) m out
+pub refused-serves : (f m out : List ℕ) (n : ℕ) → served heard current f m out ≡ sent (refusal n m) out → Serves (served heard current f m out) (record { number = n; len = 0 }) m out
 refused-serves f m out n e = rw e (record { number-is = refl; len-is = refl; image-is = refl; out-is = sym (lay-none out 0) })
 
 module _ (f z w : List ℕ) (r : Answer) (room : 132 ≤ length z) (d : Does (apart f z) r w) where
   -- a number that is not 0 is serving's number
-  pub taken-refuses : (m out : List ℕ) → (r .number ≡ 0 → ⊥) → usable first m ≡ true → 269 ≤ length out → served first f m out ≡ sent (refusal (r .number) m) out
+  pub taken-refuses : (m out : List ℕ) → (r .number ≡ 0 → ⊥) → usable current m ≡ true → 269 ≤ length out → served heard current f m out ≡ sent (refusal (r .number) m) out
   unfolding answered heard
   taken-refuses m out n u g = go (taken f z room)
     where
-      go : Taken f z → served first f m out ≡ sent (refusal (r .number) m) out
+      go : Taken f z → served heard current f m out ≡ sent (refusal (r .number) m) out
       go (passed p e) = absurd (n (d .number-is ∙ ap (λ a. a .number) e))
       go (failed k some i e reads) =
-          let h : heard (getD m 5 0) f ≡ Refused k = reads Verdict Refused (recognised (getD m 5 0) (contentsOf f)) in
+          let h : heard (address m) f ≡ Refused k = reads Verdict Refused (recognised (address m) (contentsOf f)) in
           let s : r .number ≡ k = d .number-is ∙ ap (λ a. a .number) e in
-          served-is first f m out u g ∙ rw (h, s)
+          served-is heard current f m out u g ∙ rw (h, s)
 
   module _ (zero-is : r .number ≡ 0) where
     -- with 0 the checks passed, and the work array holds the contents
@@ -61,9 +65,9 @@ module _ (f z w : List ℕ) (r : Answer) (room : 132 ≤ length z) (d : Does (ap
     contents-short = rw (opened .contents-are) (contents-length f (opened .passes) .1)
 
     -- so what the contents are answered is what is served
-    pub answered-serves : (m out : List ℕ) (s : Answer) (m′ out′ : List ℕ) → usable first m ≡ true → 269 ≤ length out
-        → Serves (sent (replied first (take (r .len) w) m) out) s m′ out′ → Serves (served first f m out) s m′ out′
+    pub answered-serves : (m out : List ℕ) (s : Answer) (m′ out′ : List ℕ) → usable current m ≡ true → 269 ≤ length out
+        → Serves (sent (replied current (take (r .len) w) m) out) s m′ out′ → Serves (served heard current f m out) s m′ out′
     unfolding answered heard
     answered-serves m out s m′ out′ u g h =
         let o = opened in
-        rw (served-is first f m out u g, judged-passed Refused (frameChecks f) (recognised (getD m 5 0) (contentsOf f)) (o .passes)) (rw (o .contents-are) at h)
+        rw (served-is heard current f m out u g, judged-passed Refused (frameChecks f) (recognised (address m) (contentsOf f)) (o .passes)) (rw (o .contents-are) at h)

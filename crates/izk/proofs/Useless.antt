@@ -1,7 +1,6 @@
 -- None of the four useless blocks keeps the promise: each breaks it at a line of the table of frames. Assumes nothing.
-use mathlib.Core.Path.{_≡_, refl, sym, ap, ap₂, _∙_}
-use mathlib.Core.Logic.{_⊎_, inl, inr}
-use mathlib.Core.List.{List, [], _∷_, List·Memᴰ, List·Memᴰ·head, List·Memᴰ·tail, List·Memᴰ·cases-cons, List·Memᴰ·not-nil}
+use mathlib.Core.Path.{_≡_, refl, sym, ap, _∙_}
+use mathlib.Core.List.{List, [], _∷_, List·Memᴰ·head, List·Memᴰ·tail}
 use mathlib.Core.Bool.{true, _&&_}
 use Prim.Native.Nat.{ℕ}
 use Prim.Native.String.{String}
@@ -9,38 +8,21 @@ use native.Mathlib.Omega.{arith}
 use lib.ListN.{length, getD}
 use lib.Dec.{eqb}
 use borrow.Author.Tests.{eqb-true}
-use Rattle.laws.specs.Bytes.{zeros}
-use Rattle.laws.proofs.Tests.{never, and-both}
-use Rattle.image.specs.Image.{first, fresh}
-use Rattle.command.specs.Serve.{After}
-use Rattle.izk.specs.Frames.{Line, codes, ended, same, on, after, right, hold, line, table}
+use Rattle.laws.specs.Bytes.{zeros, codes}
+use Rattle.laws.specs.Checks.{same}
+use Rattle.laws.proofs.Tests.{and-both, same-is, all-of}
+use Rattle.image.specs.Version.{current}
+use Rattle.image.specs.Fresh.{fresh}
+use Rattle.command.specs.Reply.{BuffersAfter}
+use Rattle.izk.specs.Frames.{Example, ended, on, after, right, example, examples}
 use Rattle.izk.specs.Useless.{Block, Keeps, replyOf, RefusesAll, RepliesTheSame, StoresNothing, EchoesLater}
-use Rattle.izk.proofs.Frames.{frames-hold, fresh-errors}
+use Rattle.izk.proofs.Frames.{examples-hold}
 
 -- ---- what a line of the table says
 
-same-is : (xs ys : List ℕ) → same xs ys ≡ true → xs ≡ ys
-unfolding same
-same-is [] [] h = refl
-same-is [] (y ∷ ys) h = absurd (never h)
-same-is (x ∷ xs) [] h = absurd (never h)
-same-is (x ∷ xs) (y ∷ ys) h =
-    let p = and-both (eqb x y) (same xs ys) h in
-    let e : x ≡ y = eqb-true x y (p .0) in
-    ap₂ _∷_ e (same-is xs ys (p .1))
-
-holds-at : {l : Line} (ls : List Line) → hold ls ≡ true → List·Memᴰ l ls → right l ≡ true
-unfolding hold
-holds-at [] h m = absurd (List·Memᴰ·not-nil m)
-holds-at {l} (k ∷ ls) h m = go (and-both (right k) (hold ls) h) (λ i j. holds-at ls i j) (List·Memᴰ·cases-cons m)
-  where
-    go : (right k ≡ true) × (hold ls ≡ true) → (hold ls ≡ true → List·Memᴰ l ls → right l ≡ true) → (l ≡ k) ⊎ List·Memᴰ l ls → right l ≡ true
-    go p ih (inl e) = rw e (p .0)
-    go p ih (inr i) = ih (p .1) i
-
-module _ (l : Line) (h : right l ≡ true) where
-  abbrev A : After
-  A = on (after (fresh first 1) (l .earlier)) (l .frame)
+module _ (l : Example) (h : right l ≡ true) where
+  abbrev A : BuffersAfter
+  A = on (after (fresh current 1) (l .earlier)) (l .frame)
 
   parts : (eqb (A .number) (l .number) ≡ true) × ((same (replyOf A) (ended (l .reply)) && eqb (getD (A .image) 6 0) (l .mask)) ≡ true)
   unfolding right
@@ -52,27 +34,27 @@ module _ (l : Line) (h : right l ≡ true) where
   reply-is : replyOf A ≡ ended (l .reply)
   reply-is = same-is _ _ (and-both (same (replyOf A) (ended (l .reply))) (eqb (getD (A .image) 6 0) (l .mask)) (parts .1) .0)
 
-abbrev P1 : Line
-P1 = line [] ":0132CD" 0 ":013200CD" 0
+abbrev P1 : Example
+P1 = example [] ":0132CD" 0 ":013200CD" 0
 
-abbrev P9 : Line
-P9 = line [] ":013D01C1" 0 ":013D010000C1" 0
+abbrev P9 : Example
+P9 = example [] ":013D01C1" 0 ":013D010000C1" 0
 
-abbrev P11 : Line
-P11 = line (":013E0101140005A6" ∷ []) ":013F01BF" 0 ":013F0101140005A5" 0
+abbrev P11 : Example
+P11 = example (":013E0101140005A6" ∷ []) ":013F01BF" 0 ":013F0101140005A5" 0
 
 p1 : right P1 ≡ true
-unfolding table
-p1 = holds-at table frames-hold (List·Memᴰ·head refl)
+unfolding examples
+p1 = all-of right (examples-hold .0) (List·Memᴰ·head refl)
 
 p9 : right P9 ≡ true
-unfolding table
-p9 = holds-at table frames-hold
+unfolding examples
+p9 = all-of right (examples-hold .0)
     (List·Memᴰ·tail (List·Memᴰ·tail (List·Memᴰ·tail (List·Memᴰ·tail (List·Memᴰ·tail (List·Memᴰ·tail (List·Memᴰ·tail (List·Memᴰ·tail (List·Memᴰ·head refl)))))))))
 
 p11 : right P11 ≡ true
-unfolding table
-p11 = holds-at table frames-hold
+unfolding examples
+p11 = all-of right (examples-hold .0)
     (List·Memᴰ·tail (List·Memᴰ·tail (List·Memᴰ·tail (List·Memᴰ·tail (List·Memᴰ·tail (List·Memᴰ·tail (List·Memᴰ·tail (List·Memᴰ·tail
     (List·Memᴰ·tail (List·Memᴰ·tail (List·Memᴰ·head refl)))))))))))
 
@@ -91,29 +73,29 @@ module _ (b : Block) (keeps : Keeps b) where
   -- at P1
   pub not-refusing : ¬ RefusesAll b
   unfolding after
-  not-refusing r = r 0 (ended ":0132CD") (fresh first 1) (zeros 269) (ap (λ a. a .number) (call 0 (fresh first 1) ":0132CD") ∙ number-is P1 p1)
+  not-refusing r = r 0 (ended ":0132CD") (fresh current 1) (zeros 269) (ap (λ a. a .number) (call 0 (fresh current 1) ":0132CD") ∙ number-is P1 p1)
 
   -- at P1 and P9
   pub not-replying-the-same : ¬ RepliesTheSame b
   unfolding after codes ended
   not-replying-the-same r =
       other-length ":013200CD" ":013D010000C1" 11 15 refl refl (λ e. absurd (let z : ⊥ = omega arith in z))
-      (sym (reply-is P1 p1) ∙ sym (ap replyOf (call 0 (fresh first 1) ":0132CD"))
-      ∙ r 0 0 (ended ":0132CD") (ended ":013D01C1") (fresh first 1) (zeros 269) ∙ ap replyOf (call 0 (fresh first 1) ":013D01C1") ∙ reply-is P9 p9)
+      (sym (reply-is P1 p1) ∙ sym (ap replyOf (call 0 (fresh current 1) ":0132CD"))
+      ∙ r 0 0 (ended ":0132CD") (ended ":013D01C1") (fresh current 1) (zeros 269) ∙ ap replyOf (call 0 (fresh current 1) ":013D01C1") ∙ reply-is P9 p9)
 
   -- at P11
   pub not-storing-nothing : ¬ StoresNothing b
   unfolding after codes ended
   not-storing-nothing r =
       other-length ":013F0101140005A5" ":013F0100BF" 19 13 refl refl (λ e. absurd (let z : ⊥ = omega arith in z))
-      (sym (reply-is P11 p11) ∙ ap (λ (m : List ℕ). replyOf (on m ":013F01BF")) kept ∙ reply-is (line [] ":013F01BF" 0 ":013F0100BF" 0) fresh-errors)
+      (sym (reply-is P11 p11) ∙ ap (λ (m : List ℕ). replyOf (on m ":013F01BF")) kept ∙ reply-is (example [] ":013F01BF" 0 ":013F0100BF" 0) (examples-hold .1))
     where
-      kept : after (fresh first 1) (":013E0101140005A6" ∷ []) ≡ fresh first 1
-      kept = ap (λ a. a .image) (sym (call 0 (fresh first 1) ":013E0101140005A6")) ∙ r 0 (ended ":013E0101140005A6") (fresh first 1) (zeros 269)
+      kept : after (fresh current 1) (":013E0101140005A6" ∷ []) ≡ fresh current 1
+      kept = ap (λ a. a .image) (sym (call 0 (fresh current 1) ":013E0101140005A6")) ∙ r 0 (ended ":013E0101140005A6") (fresh current 1) (zeros 269)
 
   -- at P1, as the second call
   pub not-echoing : ¬ EchoesLater b
   unfolding after codes ended
   not-echoing r =
       other-length ":013200CD" ":0132CD" 11 9 refl refl (λ e. absurd (let z : ⊥ = omega arith in z))
-      (sym (reply-is P1 p1) ∙ sym (ap replyOf (call 1 (fresh first 1) ":0132CD")) ∙ r 0 (ended ":0132CD") (fresh first 1) (zeros 269))
+      (sym (reply-is P1 p1) ∙ sym (ap replyOf (call 1 (fresh current 1) ":0132CD")) ∙ r 0 (ended ":0132CD") (fresh current 1) (zeros 269))

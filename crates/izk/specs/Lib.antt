@@ -1,3 +1,4 @@
+pub mod Heard
 pub mod Block
 pub mod Frames
 pub mod Useless

@@ -1,23 +1,24 @@
 -- The four useless blocks that document 01 ("How tight the promises are") wants shut out, each by what it would do. Assumes nothing.
-use Prim.Native.Nat.{ℕ, suc}
 use mathlib.Core.Path.{_≡_}
 use mathlib.Core.Logic.{_≢_}
 use mathlib.Core.List.{List}
+use Prim.Native.Nat.{ℕ, suc}
 use lib.ListN.{take}
-use Rattle.image.specs.Image.{first}
-use Rattle.command.specs.Serve.{After}
+use Rattle.image.specs.Version.{current}
+use Rattle.command.specs.Reply.{BuffersAfter}
+use Rattle.izk.specs.Heard.{heard}
 use Rattle.izk.specs.Block.{served}
 
 -- a block as it looks from outside: its n-th call, from 0, on a frame, an image and an output. What it keeps between calls shows in n
 abbrev pub Block : Type 0
-Block = ℕ → List ℕ → List ℕ → List ℕ → After
+Block = ℕ → List ℕ → List ℕ → List ℕ → BuffersAfter
 
 -- it keeps the promise of serving at every call
 abbrev pub Keeps : Block → Type 0
-Keeps b = (n : ℕ) (f m out : List ℕ) → b n f m out ≡ served first f m out
+Keeps b = (n : ℕ) (f m out : List ℕ) → b n f m out ≡ served heard current f m out
 
 -- the reply that a call sends
-abbrev pub replyOf : After → List ℕ
+abbrev pub replyOf : BuffersAfter → List ℕ
 replyOf a = take (a .len) (a .out)
 
 abbrev pub RefusesAll : Block → Type 0

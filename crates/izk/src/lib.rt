@@ -1,18 +1,21 @@
 // The block as the customer sees it: five functions, each of which takes every input and says, for every input, all that it returns and
 // leaves. A frame, an image and an output are lent; lengths are those of the whole lent slice. The numbers are document 01's.
-use frame::Answer;
 use image::Held;
-ghost use lib.ListN.{length};
+use output::Answer;
 ghost use mathlib.Core.Path.{_≡_};
-ghost use Rattle.frame.specs.Frame.{Does, apart, built};
+ghost use Rattle.output.specs.Output.{Does};
+ghost use Rattle.frame.specs.Apart.{apart};
+ghost use Rattle.frame.specs.Built.{built};
+ghost use Rattle.image.specs.Version.{current};
+ghost use Rattle.image.specs.Fresh.{freshened, Freshens};
 ghost use Rattle.image.specs.Held.{heldParts};
-ghost use Rattle.image.specs.Image.{LaysOut, first, laidOut};
-ghost use Rattle.command.specs.Serve.{Serves};
+ghost use Rattle.command.specs.Reply.{Serves};
+ghost use Rattle.izk.specs.Heard.{heard};
 ghost use Rattle.izk.specs.Block.{served};
 
 // Serves a frame: the reply stands at the start of the output, and a write changes its cell of the image. Refuses 1 to 11.
 pub fn serve(frame: &[u8], m: &mut [u8], out: &mut [u8]) -> Answer
-    ensures { λ r. ⌜ Serves (served first (now (frame .entry)) (now (m .entry)) (now (out .entry))) r (now (m .exit)) (now (out .exit)) ⌝ }
+    ensures { λ r. ⌜ Serves (served heard current (now (frame .entry)) (now (m .entry)) (now (out .entry))) r (now (m .exit)) (now (out .exit)) ⌝ }
 {
     if !image::is_usable(m) {
         return Answer { number: 1, len: 0 };
@@ -44,16 +47,16 @@ pub fn build(contents: &[u8], out: &mut [u8]) -> Answer
     frame::build(contents, out)
 }
 
-// Lays out a fresh image of an address, and answers with its number alone. Refuses 1, then 11.
+// Makes a buffer a fresh image of an address, and answers with its number alone. Refuses 1, then 11.
 pub fn fresh(m: &mut [u8], address: u8) -> u8
-    ensures { λ r. ⌜ LaysOut (laidOut first (now (m .entry)) address) r (now (m .exit)) ⌝ }
+    ensures { λ r. ⌜ Freshens (freshened current (now (m .entry)) address) r (now (m .exit)) ⌝ }
 {
-    image::lay_out(m, address)
+    image::freshen(m, address)
 }
 
 // Says how many parts of a table are held, and the lowest that is missing. Refuses 1, then 10.
 pub fn held_parts(m: &[u8], table: u32) -> Held
-    ensures { λ r. ⌜ r ≡ heldParts first (now (m .entry)) table ⌝ }
+    ensures { λ r. ⌜ r ≡ heldParts current (now (m .entry)) table ⌝ }
 {
     image::held_parts(m, table)
 }

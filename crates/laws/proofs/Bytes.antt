@@ -1,4 +1,4 @@
--- Laws of `part`, `lay` and what is counted of bytes. Assumes nothing.
+-- Laws of `slice`, `lay` and what is counted of bytes. Assumes nothing.
 use mathlib.Core.Path.{_≡_, refl, sym, ap, _∙_}
 use mathlib.Core.List.{List, [], _∷_, _++_, append-assoc}
 use Prim.Native.Nat.{ℕ, zero, suc, _+_, _-_, _/_, _%_, _≤_, _<_}
@@ -7,15 +7,15 @@ use native.Mathlib.Numerals.{add-one}
 use native.Mathlib.Omega.{arith}
 use lib.ListN.{length, getD, take, drop, set, length-take, length-drop, length-set, length-append, length-replicate, List·getD-append}
 use lib.Seq.{sets, length-sets, sets-eq, set-comm, getD-set-same, getD-set-other, getD-take, getD-drop, ext-getD, take-at, drop-at, take-append-le, length-take-le}
-use Rattle.laws.specs.Bytes.{part, lay, Laid, zeros, padded, two, pair}
+use Rattle.laws.specs.Bytes.{slice, lay, zeros, padded, two, wordAt}
 
 -- i lies in the n bytes from a
 abbrev pub In : ℕ → ℕ → ℕ → Type 0
 In a n i = (a ≤ i) × (i < a + n)
 
 -- two stretches share no byte
-abbrev pub Apart : ℕ → ℕ → ℕ → ℕ → Type 0
-Apart a n b m = (i : ℕ) → In a n i → ¬ In b m i
+abbrev pub Disjoint : ℕ → ℕ → ℕ → ℕ → Type 0
+Disjoint a n b m = (i : ℕ) → In a n i → ¬ In b m i
 
 -- ---- laying, as a loop does it
 
@@ -65,16 +65,6 @@ lay-more w w′ R L M L′ k k′ e a b h = rw (a, b, ← lay-append, ← e) h
 pub lay-trans : (o o₁ o₂ M N : List ℕ) (k k₁ : ℕ) → o₁ ≡ lay o k M → k₁ ≡ k + length M → o₂ ≡ lay o₁ k₁ N → o₂ ≡ lay o k (M ++ N)
 lay-trans o o₁ o₂ M N k k₁ a b e = rw lay-append (rw (← a, ← b) e)
 
--- the same of a cursor
-pub laid-none : (k : ℕ) (o : List ℕ) → Laid k k o o []
-laid-none k o = record { past = omega arith; laid = sym (lay-none o k) }
-
-pub laid-then : (k k₁ k₂ : ℕ) (o o₁ o₂ M N : List ℕ) → Laid k k₁ o o₁ M → Laid k₁ k₂ o₁ o₂ N → Laid k k₂ o o₂ (M ++ N)
-laid-then k k₁ k₂ o o₁ o₂ M N p q = record { past = omega (arith, length-append M N); laid = lay-trans o o₁ o₂ M N k k₁ (p .laid) (p .past) (q .laid) }
-
-pub laid-long : {k k₁ : ℕ} {o o₁ M : List ℕ} → Laid k k₁ o o₁ M → length o₁ ≡ length o
-laid-long {k} {o} {M} l = ap length (l .laid) ∙ length-lay o k M
-
 -- ---- laying, byte by byte
 
 pub lay-out : (m : List ℕ) (a : ℕ) (bs : List ℕ) (i : ℕ) → ¬ In a (length bs) i → getD (lay m a bs) i 0 ≡ getD m i 0
@@ -103,7 +93,7 @@ set-lay m i v b (y ∷ ys) h =
     ∙ ap (λ (l : List ℕ). lay l (suc b) ys) (set-comm m b i y v (λ e. h (omega arith, omega arith)))
     ∙ sym (lay-first (set m i v) b y ys)
 
-pub lay-swap : (m : List ℕ) (a : ℕ) (xs : List ℕ) (b : ℕ) (ys : List ℕ) → Apart a (length xs) b (length ys) → lay (lay m a xs) b ys ≡ lay (lay m b ys) a xs
+pub lay-swap : (m : List ℕ) (a : ℕ) (xs : List ℕ) (b : ℕ) (ys : List ℕ) → Disjoint a (length xs) b (length ys) → lay (lay m a xs) b ys ≡ lay (lay m b ys) a xs
 lay-swap m a [] b ys h = rw (lay-none m a, lay-none (lay m b ys) a)
 lay-swap m a (x ∷ xs) b ys h =
     ap (λ (l : List ℕ). lay l b ys) (lay-first m a x xs)
@@ -144,40 +134,36 @@ module _ (z l : List ℕ) (fits : length l ≤ length z) where
   pub lay-rest : drop (length l) (lay z 0 l) ≡ drop (length l) z
   lay-rest = rw lay-start (drop-at l (drop (length l) z) (length l) refl)
 
--- ---- a part
+-- ---- a slice
 
-pub length-part : (at n : ℕ) (l : List ℕ) → at + n ≤ length l → length (part at n l) ≡ n
-unfolding part
-length-part at n l h = length-take-le n (drop at l) (omega (arith, length-drop at l))
+pub length-slice : (from n : ℕ) (l : List ℕ) → from + n ≤ length l → length (slice from n l) ≡ n
+unfolding slice
+length-slice from n l h = length-take-le n (drop from l) (omega (arith, length-drop from l))
 
-pub part-most : (at n : ℕ) (l : List ℕ) → length (part at n l) ≤ n
-unfolding part
-part-most at n l = omega (arith, length-take n (drop at l))
+pub slice-most : (from n : ℕ) (l : List ℕ) → length (slice from n l) ≤ n
+unfolding slice
+slice-most from n l = omega (arith, length-take n (drop from l))
 
 -- the slice from an offset to an end
-pub part-is : (at e n : ℕ) (l : List ℕ) → e - at ≡ n → take (e - at) (drop at l) ≡ part at n l
-unfolding part
-part-is at e n l h = rw h
+pub slice-is : (from e n : ℕ) (l : List ℕ) → e - from ≡ n → take (e - from) (drop from l) ≡ slice from n l
+unfolding slice
+slice-is from e n l h = rw h
 
 -- what was laid is read
-pub part-lay : (m : List ℕ) (a n : ℕ) (bs : List ℕ) → n ≤ length bs → a + length bs ≤ length m → part a n (lay m a bs) ≡ take n bs
-unfolding part
-part-lay m a n bs h g =
+pub slice-lay : (m : List ℕ) (a n : ℕ) (bs : List ℕ) → n ≤ length bs → a + length bs ≤ length m → slice a n (lay m a bs) ≡ take n bs
+unfolding slice
+slice-lay m a n bs h g =
     let e : length (take a m) ≡ a = length-take-le a m (omega arith) in
     ap (λ (l : List ℕ). take n (drop a l)) (lay-between m a bs g ∙ append-assoc (take a m) bs (drop (a + length bs) m))
     ∙ ap (take n) (drop-at (take a m) (bs ++ drop (a + length bs) m) a e)
     ∙ take-append-le n bs (drop (a + length bs) m) h
 
--- two lists that agree on a stretch have one part there
-pub part-same : (m m′ : List ℕ) (a n : ℕ) → length m ≡ length m′ → ((i : ℕ) → In a n i → getD m i 0 ≡ getD m′ i 0) → part a n m ≡ part a n m′
-unfolding part
-part-same m m′ a n e h =
+-- two lists that agree on a stretch have one slice there
+pub slice-same : (m m′ : List ℕ) (a n : ℕ) → length m ≡ length m′ → ((i : ℕ) → In a n i → getD m i 0 ≡ getD m′ i 0) → slice a n m ≡ slice a n m′
+unfolding slice
+slice-same m m′ a n e h =
     ext-getD 0 _ _ (simp (length-take, length-drop, e))
     (λ k l. let lt : k < n = omega (arith, simp length-take at l) in simp (getD-take, getD-drop) (h (a + k) (omega arith, omega arith)))
-
--- so elsewhere is read what was there
-pub part-out : (m : List ℕ) (a n b : ℕ) (bs : List ℕ) → Apart a n b (length bs) → part a n (lay m b bs) ≡ part a n m
-part-out m a n b bs h = part-same (lay m b bs) m a n (length-lay m b bs) (λ i p. lay-out m b bs i (h i p))
 
 -- ---- padding, and numbers of two bytes
 
@@ -218,14 +204,14 @@ pub length-two : (v : ℕ) → length (two v) ≡ 2
 unfolding two
 length-two v = refl
 
-pub pair-two : (m : List ℕ) (a v : ℕ) → a + 2 ≤ length m → pair (lay m a (two v)) a ≡ v
-unfolding pair two
-pair-two m a v h =
+pub word-two : (m : List ℕ) (a v : ℕ) → a + 2 ≤ length m → wordAt (lay m a (two v)) a ≡ v
+unfolding wordAt two
+word-two m a v h =
     let e : a + 0 ≡ a = omega arith in
     let p : getD (lay m a (two v)) a 0 ≡ v / 256 = rw e at (lay-in m a (two v) 0 (omega arith) (omega arith)) in
     let q : getD (lay m a (two v)) (a + 1) 0 ≡ v % 256 = lay-in m a (two v) 1 (omega arith) (omega arith) in
     rw (p, q) (omega arith)
 
-pub pair-out : (m : List ℕ) (a : ℕ) (bs : List ℕ) (i : ℕ) → ¬ In a (length bs) i → ¬ In a (length bs) (i + 1) → pair (lay m a bs) i ≡ pair m i
-unfolding pair
-pair-out m a bs i h g = rw (lay-out m a bs i h, lay-out m a bs (i + 1) g)
+pub word-out : (m : List ℕ) (a : ℕ) (bs : List ℕ) (i : ℕ) → ¬ In a (length bs) i → ¬ In a (length bs) (i + 1) → wordAt (lay m a bs) i ≡ wordAt m i
+unfolding wordAt
+word-out m a bs i h g = rw (lay-out m a bs i h, lay-out m a bs (i + 1) g)

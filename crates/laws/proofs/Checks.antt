@@ -1,7 +1,7 @@
 -- Laws of the first check that fails. Assumes nothing.
-use mathlib.Core.Path.{_≡_, refl, sym, ap, _∙_}
+use mathlib.Core.Path.{_≡_, refl, sym, _∙_}
 use mathlib.Core.Logic.{_⊎_, inl, inr}
-use mathlib.Core.List.{List, [], _∷_, _++_, List·Memᴰ, List·Memᴰ·cases-cons, List·Memᴰ·not-nil}
+use mathlib.Core.List.{List, [], _∷_, List·Memᴰ, List·Memᴰ·cases-cons, List·Memᴰ·not-nil}
 use mathlib.Core.Bool.{Bool, true, false, cond}
 use Prim.Native.Nat.{ℕ, _≤_, _<_}
 use native.Mathlib.Omega.{arith}
@@ -25,12 +25,6 @@ judged-map {A} {B} g refuse (c ∷ cs) after = go (c .passes) (judged-map g refu
         → g (cond t (judged refuse cs after) (refuse (c .number))) ≡ cond t (judged (λ n. g (refuse n)) cs (g after)) (g (refuse (c .number)))
     go true ih = ih
     go false ih = refl
-
--- one list after another
-pub judged-append : {A : Type 0} (refuse : ℕ → A) (cs ds : List Check) (after : A) → judged refuse (cs ++ ds) after ≡ judged refuse cs (judged refuse ds after)
-unfolding judged
-judged-append refuse [] ds after = refl
-judged-append refuse (c ∷ cs) ds after = ap (λ x. cond (c .passes) x (refuse (c .number))) (judged-append refuse cs ds after)
 
 -- where all pass, what follows is the answer
 pub judged-passed : {A : Type 0} (refuse : ℕ → A) (cs : List Check) (after : A) → AllPass cs → judged refuse cs after ≡ after

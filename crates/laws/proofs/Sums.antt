@@ -5,9 +5,9 @@ use Prim.Native.Nat.{ℕ, zero, suc, _+_, _*_, _≤_, _<_}
 use native.Mathlib.Omega.{arith}
 use lib.ListN.{length, getD, take, drop, take-append-drop}
 use lib.Seq.{take-add}
-use Rattle.laws.specs.Bytes.{part, lay, sumOf}
-use Rattle.laws.proofs.Bytes.{lay-between}
+use Rattle.laws.specs.Bytes.{slice, lay, sumOf}
 use Rattle.laws.proofs.Walks.{next, none-left}
+use Rattle.laws.proofs.Bytes.{lay-between}
 
 -- ---- as a loop adds it up
 
@@ -33,8 +33,8 @@ sum-bound [] h = omega arith
 sum-bound (x ∷ s) h = let e = sum-bound s (λ k. h (suc k)) in let b = h zero in omega arith
 
 -- over a laid stretch: what left and what came
-pub sum-lay : (m : List ℕ) (a : ℕ) (bs : List ℕ) → a + length bs ≤ length m → sumOf (lay m a bs) + sumOf (part a (length bs) m) ≡ sumOf m + sumOf bs
-unfolding part
+pub sum-lay : (m : List ℕ) (a : ℕ) (bs : List ℕ) → a + length bs ≤ length m → sumOf (lay m a bs) + sumOf (slice a (length bs) m) ≡ sumOf m + sumOf bs
+unfolding slice
 sum-lay m a bs h =
     let l : sumOf (lay m a bs) ≡ sumOf (take a m) + sumOf bs + sumOf (drop (a + length bs) m) =
     ap sumOf (lay-between m a bs h) ∙ sum-append (take a m ++ bs) (drop (a + length bs) m) ∙ ap (λ (n : ℕ). n + sumOf (drop (a + length bs) m)) (sum-append (take a m) bs) in

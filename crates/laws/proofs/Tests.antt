@@ -1,14 +1,15 @@
 -- What tests mean. Assumes nothing.
-use mathlib.Core.Path.{_≡_, refl}
+use mathlib.Core.Path.{_≡_, refl, ap₂}
 use mathlib.Core.Logic.{_⊎_, inl, inr}
+use mathlib.Core.List.{List, [], _∷_, List·Memᴰ, List·Memᴰ·cases-cons, List·Memᴰ·not-nil}
 use mathlib.Core.Bool.{Bool, true, false, _&&_, _||_, and-false}
 use Prim.Native.Nat.{ℕ, zero, suc, _+_, _≤_, _<_}
 use native.Mathlib.Decide.{ℕ-discrete}
 use native.Mathlib.Numerals.{add-one}
 use native.Mathlib.Omega.{arith}
-use lib.Dec.{leb}
-use borrow.Author.Tests.{leb-true, le-leb, lt-leb}
-use Rattle.laws.specs.Checks.{within, every}
+use lib.Dec.{leb, eqb}
+use borrow.Author.Tests.{leb-true, le-leb, lt-leb, eqb-true}
+use Rattle.laws.specs.Checks.{within, every, all, same}
 
 pub never : _≡_ {A = Bool} false true → ⊥
 never e = let z : _≡_ {A = ℕ} 0 1 = cc in omega arith
@@ -72,3 +73,26 @@ module _ (t : ℕ → Bool) where
   unfolding every
   every-of zero h = refl
   every-of (suc n) h = rw (h n (omega arith), every-of n (λ i l. h i (omega arith)))
+
+-- ---- a test of each element
+
+pub all-of : {A : Type 0} (t : A → Bool) {x : A} {l : List A} → all t l ≡ true → List·Memᴰ x l → t x ≡ true
+unfolding all
+all-of t {l = []} h m = absurd (List·Memᴰ·not-nil m)
+all-of {A} t {x} {l = y ∷ l} h m = go (and-both (t y) (all t l) h) (λ g k. all-of t g k) (List·Memᴰ·cases-cons m)
+  where
+    go : (t y ≡ true) × (all t l ≡ true) → (all t l ≡ true → List·Memᴰ x l → t x ≡ true) → (x ≡ y) ⊎ List·Memᴰ x l → t x ≡ true
+    go p ih (inl e) = rw e (p .0)
+    go p ih (inr k) = ih (p .1) k
+
+-- ---- the same numbers
+
+pub same-is : (xs ys : List ℕ) → same xs ys ≡ true → xs ≡ ys
+unfolding same
+same-is [] [] h = refl
+same-is [] (y ∷ ys) h = absurd (never h)
+same-is (x ∷ xs) [] h = absurd (never h)
+same-is (x ∷ xs) (y ∷ ys) h =
+    let p = and-both (eqb x y) (same xs ys) h in
+    let e : x ≡ y = eqb-true x y (p .0) in
+    ap₂ _∷_ e (same-is xs ys (p .1))

@@ -1,13 +1,15 @@
--- Bytes in a list. Every layer reads a stretch by `part` alone and changes an image or an output by `lay` alone, so what is proved of these
+-- Bytes in a list. Every layer reads a stretch by `slice` alone and changes an image or an output by `lay` alone, so what is proved of these
 -- two is proved once. Assumes nothing.
-use Prim.Native.Nat.{ℕ, zero, suc, _+_, _-_, _*_, _/_, _%_}
-use mathlib.Core.Path.{_≡_}
 use mathlib.Core.List.{List, [], _∷_, _++_}
+use Prim.Native.Nat.{ℕ, zero, suc, _+_, _-_, _*_, _/_, _%_}
+use Prim.Native.Char.{code}
+use Prim.Native.String as S
+use Prim.Native.String.{String}
 use lib.ListN.{length, getD, take, drop, replicate}
 
 -- n bytes from an offset
-unfoldable pub part : ℕ → ℕ → List ℕ → List ℕ
-part at n l = take n (drop at l)
+unfoldable pub slice : ℕ → ℕ → List ℕ → List ℕ
+slice from n l = take n (drop from l)
 
 -- a list with bytes laid over it from an offset on. What would fall past its end is lost: the length stays
 unfoldable pub lay : List ℕ → ℕ → List ℕ → List ℕ
@@ -15,11 +17,6 @@ lay [] at bytes = []
 lay (x ∷ l) zero [] = x ∷ l
 lay (x ∷ l) zero (b ∷ bytes) = b ∷ lay l zero bytes
 lay (x ∷ l) (suc at) bytes = x ∷ lay l at bytes
-
--- a cursor has moved from one offset to another, past the bytes that were laid there
-pub record Laid (from to : ℕ) (old new bytes : List ℕ) : Type 0 where
-  pub past : to ≡ from + length bytes
-  pub laid : new ≡ lay old from bytes
 
 unfoldable pub zeros : ℕ → List ℕ
 zeros n = replicate n 0
@@ -36,5 +33,10 @@ sumOf (b ∷ bs) = b + sumOf bs
 unfoldable pub two : ℕ → List ℕ
 two n = n / 256 ∷ (n % 256 ∷ [])
 
-unfoldable pub pair : List ℕ → ℕ → ℕ
-pair l i = 256 * getD l i 0 + getD l (i + 1) 0
+unfoldable pub wordAt : List ℕ → ℕ → ℕ
+wordAt l i = 256 * getD l i 0 + getD l (i + 1) 0
+
+-- a text's bytes
+unfoldable pub codes : String → List ℕ
+codes S.[] = []
+codes (S._∷_ c s) = code c ∷ codes s

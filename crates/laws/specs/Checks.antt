@@ -1,8 +1,8 @@
 -- Checks, in document 01's sense: each has a refusal number, and the first that fails decides. Assumes nothing.
-use Prim.Native.Nat.{ℕ, zero, suc}
 use mathlib.Core.List.{List, [], _∷_}
-use mathlib.Core.Bool.{Bool, true, cond, _&&_}
-use lib.Dec.{leb, ltb}
+use mathlib.Core.Bool.{Bool, true, false, cond, _&&_}
+use Prim.Native.Nat.{ℕ, zero, suc}
+use lib.Dec.{leb, ltb, eqb}
 
 pub record Check : Type 0 where
   pub number : ℕ
@@ -35,3 +35,15 @@ within a b n = leb a n && leb n b
 unfoldable pub every : (ℕ → Bool) → ℕ → Bool
 every t zero = true
 every t (suc n) = t n && every t n
+
+-- a test of each element
+unfoldable pub all : {A : Type 0} → (A → Bool) → List A → Bool
+all t [] = true
+all t (x ∷ l) = t x && all t l
+
+-- two lists have the same numbers
+unfoldable pub same : List ℕ → List ℕ → Bool
+same [] [] = true
+same [] (y ∷ ys) = false
+same (x ∷ xs) [] = false
+same (x ∷ xs) (y ∷ ys) = eqb x y && same xs ys

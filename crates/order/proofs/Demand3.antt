@@ -1,25 +1,26 @@
--- Demand 3: calls of which no two clash may be served in any order. Assumes nothing.
+-- Demand 3: calls of which no two clash may be served in any order, whatever hears them lawfully. Assumes nothing.
 use mathlib.Core.Path.{_≡_, refl, sym, ap, ap₂, _∙_}
 use mathlib.Core.Logic.{inl, inr}
 use mathlib.Core.List.{List, [], _++_}
 use Prim.Native.Nat.{ℕ, _+_, _<_}
 use lib.ListN.{length, getD, take}
-use Rattle.frame.specs.Frame.{contentsOf, frameOf}
+use Rattle.reorder.specs.Reorder.{outcomes, Commutes, place, pick, Reorders, NoClash, KeepsClashes, SameService}
+use Rattle.reorder.proofs.Order.{keeping-order, any-order}
+use Rattle.reorder.proofs.Readings.{each-outcome}
+use Rattle.frame.specs.Apart.{contentsOf}
+use Rattle.frame.specs.Built.{frameOf}
 use Rattle.image.specs.declared.cell.Cell.{Cell}
-use Rattle.image.specs.Image.{Version}
-use Rattle.image.proofs.Usable.{Usable, facts}
-use Rattle.command.specs.declared.rule.Act.{Act}
-use Rattle.command.specs.declared.verdict.Verdict.{Verdict}
-use Rattle.command.specs.declared.verdict.Verdict.the-variants.{Refused, Accepted}
-use Rattle.command.specs.Serve.{heard, done, answered, After}
-use Rattle.command.specs.Fits.{FitVerdict}
-use Rattle.command.proofs.Fit.{heard-fits}
+use Rattle.image.specs.Version.{Version}
+use Rattle.image.proofs.UsableFacts.{Usable, facts}
+use Rattle.rules.specs.declared.rule.Act.{Act}
+use Rattle.rules.specs.declared.verdict.Verdict.the-variants.{Refused, Accepted}
+use Rattle.rules.specs.declared.verdict.Verdict.{Verdict}
+use Rattle.rules.specs.Fits.{FitVerdict}
+use Rattle.command.specs.Reply.{done, BuffersAfter}
 use Rattle.command.proofs.Commute.{Clear, says-same, leaves-swap}
+use Rattle.izk.specs.Heard.{answered, Hearing, Lawful}
 use Rattle.izk.proofs.Serving.{served-is, reply-seen, answered-usable, answered-address}
-use Rattle.order.specs.Reorder.{outcomes, Commutes, place, pick, Reorders, NoClash, KeepsClashes, SameService}
 use Rattle.order.specs.Serving.{Call, nothing, step, Good, Meets, Clash}
-use Rattle.order.proofs.Order.{keeping-order, any-order}
-use Rattle.order.proofs.Readings.{each-outcome}
 
 -- ---- two verdicts of which the first does not meet the second
 
@@ -31,14 +32,14 @@ clear : (e k : ℕ) (a b : Act) (d d′ : Cell) → ¬ Meets (Accepted e a d) (A
 clear e k a b d d′ n x w = (λ r. n (x, w, inl r), λ r. n (x, w, inr r))
 
 -- the second is answered as it would be without the first, and both orders leave one image
-record Apart (v : Version) (c c′ m : List ℕ) (x y : Verdict) : Type 0 where
+record Independent (v : Version) (c c′ m : List ℕ) (x y : Verdict) : Type 0 where
   unmoved : did v y c′ (done v x c m .image) .0 ≡ did v y c′ m .0
   one-image : done v y c′ (done v x c m .image) .image ≡ done v x c (done v y c′ m .image) .image
 
-apart : (v : Version) (c c′ m : List ℕ) → Usable v m → (x y : Verdict) → FitVerdict x c → FitVerdict y c′ → ¬ Meets x y → Apart v c c′ m x y
-apart v c c′ m u x (Refused n) f g h = record { unmoved = refl; one-image = refl }
-apart v c c′ m u (Refused n) (Accepted k b d′) f g h = record { unmoved = refl; one-image = refl }
-apart v c c′ m u (Accepted e a d) (Accepted k b d′) f g h =
+independent : (v : Version) (c c′ m : List ℕ) → Usable v m → (x y : Verdict) → FitVerdict x c → FitVerdict y c′ → ¬ Meets x y → Independent v c c′ m x y
+independent v c c′ m u x (Refused n) f g h = record { unmoved = refl; one-image = refl }
+independent v c c′ m u (Refused n) (Accepted k b d′) f g h = record { unmoved = refl; one-image = refl }
+independent v c c′ m u (Accepted e a d) (Accepted k b d′) f g h =
     let n = clear e k a b d d′ h in
     record {
       unmoved = ap (λ (l : List ℕ). (0, frameOf (take (2 + k) c′ ++ l))) (says-same v m u a b d d′ c c′ (f .act) (g .act) n);
@@ -47,55 +48,55 @@ apart v c c′ m u (Accepted e a d) (Accepted k b d′) f g h =
 
 -- ---- two calls
 
-module _ (v : Version) (a : ℕ) where
-  clash-turn : (x y : Call) → Clash a x y → Clash a y x
+module _ (ear : Hearing) (ok : Lawful ear) (v : Version) (a : ℕ) where
+  clash-turn : (x y : Call) → Clash ear a x y → Clash ear a y x
   clash-turn x y (inl h) = inr h
   clash-turn x y (inr h) = inl h
 
   -- what a call does, by what is heard
   abbrev does : Call → List ℕ → (ℕ × List ℕ) × List ℕ
-  does x m = did v (heard a (x .frame)) (contentsOf (x .frame)) m
+  does x m = did v (ear a (x .frame)) (contentsOf (x .frame)) m
 
-  step-is : (m : List ℕ) (x : Call) → Good v a m → step v m x ≡ does x m
+  step-is : (m : List ℕ) (x : Call) → Good v a m → step ear v m x ≡ does x m
   unfolding answered
   step-is m x g =
-      ap₂ (λ (t : After) (l : List ℕ). ((t .number, l), t .image)) (served-is v (x .frame) m (x .out) (g .0) (x .room)) (reply-seen v (x .frame) m (x .out) (g .0) (x .room))
-      ∙ ap (λ (b : ℕ). did v (heard b (x .frame)) (contentsOf (x .frame)) m) (g .1)
+      ap₂ (λ (t : BuffersAfter) (l : List ℕ). ((t .number, l), t .image)) (served-is ear v (x .frame) m (x .out) (g .0) (x .room)) (reply-seen ear v (x .frame) m (x .out) ok (g .0) (x .room))
+      ∙ ap (λ (b : ℕ). did v (ear b (x .frame)) (contentsOf (x .frame)) m) (g .1)
 
-  stays : (m : List ℕ) (x : Call) → Good v a m → Good v a (step v m x .1)
-  stays m x g = rw (served-is v (x .frame) m (x .out) (g .0) (x .room)) (answered-usable v (x .frame) m (g .0), answered-address v (x .frame) m (g .0) ∙ g .1)
+  stays : (m : List ℕ) (x : Call) → Good v a m → Good v a (step ear v m x .1)
+  stays m x g = rw (served-is ear v (x .frame) m (x .out) (g .0) (x .room)) (answered-usable ear ok v (x .frame) m (g .0), answered-address ear ok v (x .frame) m (g .0) ∙ g .1)
 
   module _ (m : List ℕ) (x y : Call) (g : Good v a m) where
     -- after x, y does what it would do on the image that x leaves
-    then-is : step v (step v m x .1) y ≡ does y (does x m .1)
-    then-is = step-is (step v m x .1) y (stays m x g) ∙ ap (λ (r : (ℕ × List ℕ) × List ℕ). does y (r .1)) (step-is m x g)
+    then-is : step ear v (step ear v m x .1) y ≡ does y (does x m .1)
+    then-is = step-is (step ear v m x .1) y (stays m x g) ∙ ap (λ (r : (ℕ × List ℕ) × List ℕ). does y (r .1)) (step-is m x g)
 
-    calls-apart : ¬ Clash a x y → Apart v (contentsOf (x .frame)) (contentsOf (y .frame)) m (heard a (x .frame)) (heard a (y .frame))
-    calls-apart n = apart v _ _ m (facts v m (g .0)) _ _ (heard-fits a (x .frame)) (heard-fits a (y .frame)) (λ h. n (inl h))
+    calls-independent : ¬ Clash ear a x y → Independent v (contentsOf (x .frame)) (contentsOf (y .frame)) m (ear a (x .frame)) (ear a (y .frame))
+    calls-independent n = independent v _ _ m (facts v m (g .0)) _ _ (ok .fits a (x .frame)) (ok .fits a (y .frame)) (λ h. n (inl h))
 
-    second : ¬ Clash a x y → step v (step v m x .1) y .0 ≡ step v m y .0
-    second n = ap (λ (r : (ℕ × List ℕ) × List ℕ). r .0) then-is ∙ calls-apart n .unmoved ∙ sym (ap (λ (r : (ℕ × List ℕ) × List ℕ). r .0) (step-is m y g))
+    second : ¬ Clash ear a x y → step ear v (step ear v m x .1) y .0 ≡ step ear v m y .0
+    second n = ap (λ (r : (ℕ × List ℕ) × List ℕ). r .0) then-is ∙ calls-independent n .unmoved ∙ sym (ap (λ (r : (ℕ × List ℕ) × List ℕ). r .0) (step-is m y g))
 
-  commute : (m : List ℕ) (x y : Call) → Good v a m → ¬ Clash a x y → Commutes (step v) m x y
+  commute : (m : List ℕ) (x y : Call) → Good v a m → ¬ Clash ear a x y → Commutes (step ear v) m x y
   commute m x y g n =
       record {
         first = second m y x g (λ h. n (clash-turn y x h));
         second = second m x y g n;
-        state = ap (λ (r : (ℕ × List ℕ) × List ℕ). r .1) (then-is m x y g) ∙ calls-apart m x y g n .one-image
+        state = ap (λ (r : (ℕ × List ℕ) × List ℕ). r .1) (then-is m x y g) ∙ calls-independent m x y g n .one-image
             ∙ sym (ap (λ (r : (ℕ × List ℕ) × List ℕ). r .1) (then-is m y x g));
       }
 
   -- ---- any list of calls
 
   -- demand 3: in any order each call has the number and the reply that it has in the list, and the image that is left is the list's
-  pub any-order-serves : (xs : List Call) (o : List ℕ) (m : List ℕ) → Good v a m → Reorders (length xs) o → NoClash (Clash a) nothing xs → SameService (step v) nothing (0, []) m xs o
-  any-order-serves = any-order (step v) (Good v a) (Clash a) stays commute nothing (0, []) clash-turn
+  pub any-order-serves : (xs : List Call) (o : List ℕ) (m : List ℕ) → Good v a m → Reorders (length xs) o → NoClash (Clash ear a) nothing xs → SameService (step ear v) nothing (0, []) m xs o
+  any-order-serves = any-order (step ear v) (Good v a) (Clash ear a) stays commute nothing (0, []) clash-turn
 
   -- by place
-  pub any-order-answers : (xs : List Call) (o : List ℕ) (m : List ℕ) → Good v a m → Reorders (length xs) o → NoClash (Clash a) nothing xs → (k : ℕ) → k < length o
-      → getD (outcomes (step v) m (pick nothing xs o)) k (0, []) ≡ getD (outcomes (step v) m xs) (place o k) (0, [])
-  any-order-answers xs o m g r n = each-outcome (step v) nothing (0, []) m xs o (any-order-serves xs o m g r n)
+  pub any-order-answers : (xs : List Call) (o : List ℕ) (m : List ℕ) → Good v a m → Reorders (length xs) o → NoClash (Clash ear a) nothing xs → (k : ℕ) → k < length o
+      → getD (outcomes (step ear v) m (pick nothing xs o)) k (0, []) ≡ getD (outcomes (step ear v) m xs) (place o k) (0, [])
+  any-order-answers xs o m g r n = each-outcome (step ear v) nothing (0, []) m xs o (any-order-serves xs o m g r n)
 
   -- and where calls clash, in any order that keeps theirs
-  pub keeping-order-serves : (xs : List Call) (o : List ℕ) (m : List ℕ) → Good v a m → Reorders (length xs) o → KeepsClashes (Clash a) nothing xs o → SameService (step v) nothing (0, []) m xs o
-  keeping-order-serves = keeping-order (step v) (Good v a) (Clash a) stays commute nothing (0, [])
+  pub keeping-order-serves : (xs : List Call) (o : List ℕ) (m : List ℕ) → Good v a m → Reorders (length xs) o → KeepsClashes (Clash ear a) nothing xs o → SameService (step ear v) nothing (0, []) m xs o
+  keeping-order-serves = keeping-order (step ear v) (Good v a) (Clash ear a) stays commute nothing (0, [])

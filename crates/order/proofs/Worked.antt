@@ -4,23 +4,31 @@ use mathlib.Core.Path.{_≡_, refl}
 use mathlib.Core.List.{List, [], _∷_, _++_}
 use mathlib.Core.Bool.{true}
 use Prim.Native.Nat.{ℕ, zero, suc}
+use native.Mathlib.Omega.{arith}
 use lib.ListN.{replicate}
-use Rattle.laws.specs.Bytes.{part, lay, zeros, padded, sumOf, two, pair}
-use Rattle.laws.specs.Checks.{judged, within, every}
+use Rattle.laws.specs.Bytes.{slice, lay, zeros, padded, sumOf, two, wordAt}
+use Rattle.laws.specs.Checks.{judged, within, every, all}
 use Rattle.laws.specs.Bits.{withBit}
+use Rattle.reorder.specs.Reorder.{final, pick, SameService}
+use Rattle.reorder.proofs.Tests.{undoes, reorders-of}
 use Rattle.frame.specs.Digits.{isDigit, allDigits, valueOf, charOf, charsOf, bytesOf, checksumOf}
-use Rattle.frame.specs.Frame.{lengthOk, endsOk, inner, bodyOf, contentsOf, sumOk, frameChecks, frameOf}
-use Rattle.image.specs.Cell as Cells
-use Rattle.image.specs.Cell.{when, isTable, partNamed, all}
-use Rattle.image.specs.Image.{first, headOk, countOk, word, wordOk, usable, fresh}
-use Rattle.command.specs.Rules.{table, lookup}
-use Rattle.command.specs.Act.{stored}
-use Rattle.command.specs.Serve.{tried, sought, recognised, heard, answered}
+use Rattle.frame.specs.Apart.{lengthOk, endsOk, inner, bodyOf, contentsOf, sumOk, frameChecks}
+use Rattle.frame.specs.Built.{frameOf}
+use Rattle.image.specs.Version.{current}
+use Rattle.image.specs.Cell.{when, isTable, tableIndex, partNamed}
+use Rattle.image.specs.Words.{tableWord}
+use Rattle.image.specs.Usable.{markOk, addressOk, countOk, wordOk, usable}
+use Rattle.image.specs.Fresh.{fresh}
+use Rattle.image.specs.Stored.{stored}
+use Rattle.image.proofs.FreshImage.{fresh-usable}
+use Rattle.rules.specs.Rules.{commands, ruleOf}
+use Rattle.rules.specs.Verdict.{tried, sought, recognised}
+use Rattle.izk.specs.Heard.{heard, answered}
 use Rattle.izk.specs.Block.{served}
-use Rattle.order.specs.Reorder.{final, pick, SameService}
+use Rattle.izk.proofs.Hearing.{heard-lawful}
 use Rattle.order.specs.Serving.{Call, call, nothing, step}
-use Rattle.order.proofs.Tests.{undoes, reorders-of, apart, clear, noneMeet, quiet, no-clash-of}
 use Rattle.order.proofs.Demand3.{any-order-serves}
+use Rattle.order.proofs.Tests.{disjoint, clear, noneMeet, quiet, no-clash-of}
 
 -- n parts of table t from part p on, each byte of a part its number
 unfoldable pub writes : ℕ → ℕ → ℕ → List Call
@@ -45,17 +53,19 @@ redone : undoes other back ≡ true
 unfolding undoes other back every
 redone = refl
 
-no-two-meet : quiet 1 calls ≡ true
-unfolding quiet noneMeet clear apart all calls writes heard recognised sought tried lookup table when isTable Cells.place partNamed lengthOk endsOk inner bodyOf contentsOf sumOk frameChecks frameOf isDigit allDigits valueOf charOf charsOf bytesOf checksumOf judged within every part sumOf
+no-two-meet : quiet heard 1 calls ≡ true
+unfolding quiet noneMeet clear disjoint all calls writes heard recognised sought tried ruleOf commands when isTable tableIndex partNamed lengthOk endsOk
+    inner bodyOf contentsOf sumOk frameChecks frameOf isDigit allDigits valueOf charOf charsOf bytesOf checksumOf judged within every slice sumOf
 no-two-meet = refl
 
-fresh-usable : usable first (fresh first 1) ≡ true
-unfolding headOk countOk word wordOk usable fresh every lay zeros pair
-fresh-usable = refl
+is-usable : usable current (fresh current 1) ≡ true
+is-usable = fresh-usable current 1 (λ e. absurd (let z : ⊥ = omega arith in z))
 
-pub same-service : SameService (step first) nothing (0, []) (fresh first 1) calls other
+pub same-service : SameService (step heard current) nothing (0, []) (fresh current 1) calls other
 unfolding calls writes back fresh lay zeros
-same-service = any-order-serves first 1 calls other (fresh first 1) (fresh-usable, refl) (reorders-of back other undone redone) (no-clash-of 1 calls no-two-meet)
+same-service =
+    any-order-serves heard heard-lawful current 1 calls other (fresh current 1) (is-usable, refl) (reorders-of back other undone redone)
+    (no-clash-of heard 1 calls no-two-meet)
 
 -- ---- both orders, computed by the definition alone
 
@@ -72,10 +82,9 @@ words = zeros 2 ++ (7 ∷ (255 ∷ (zeros 14 ++ (0 ∷ (3 ∷ zeros 12)))))
 unfoldable pub expected : List ℕ
 expected = (73 ∷ (90 ∷ (75 ∷ (0 ∷ (1 ∷ (1 ∷ zeros 11)))))) ++ (words ++ (zeros 2584 ++ (rows 1 11 ++ (zeros 9856 ++ (rows 1 2 ++ zeros 9600)))))
 
-pub as-written : final (step first) (fresh first 1) calls ≡ expected
-unfolding calls other writes rows words expected served answered heard recognised sought tried stored lookup table headOk countOk word wordOk usable fresh when isTable Cells.place partNamed lengthOk endsOk inner bodyOf contentsOf sumOk frameChecks frameOf isDigit allDigits valueOf charOf charsOf bytesOf checksumOf withBit judged within every part lay zeros padded sumOf two pair
-as-written = refl
-
-pub otherwise : final (step first) (fresh first 1) (pick nothing calls other) ≡ expected
-unfolding calls other writes rows words expected served answered heard recognised sought tried stored lookup table headOk countOk word wordOk usable fresh when isTable Cells.place partNamed lengthOk endsOk inner bodyOf contentsOf sumOk frameChecks frameOf isDigit allDigits valueOf charOf charsOf bytesOf checksumOf withBit judged within every part lay zeros padded sumOf two pair
-otherwise = refl
+-- as written, and otherwise
+pub both-orders : (final (step heard current) (fresh current 1) calls ≡ expected) × (final (step heard current) (fresh current 1) (pick nothing calls other) ≡ expected)
+unfolding calls other writes rows words expected served answered heard recognised sought tried stored ruleOf commands markOk addressOk countOk tableWord
+    wordOk usable fresh when isTable tableIndex partNamed lengthOk endsOk inner bodyOf contentsOf sumOk frameChecks frameOf isDigit allDigits valueOf
+    charOf charsOf bytesOf checksumOf withBit judged within every slice lay zeros padded sumOf two wordAt
+both-orders = (refl, refl)

@@ -1,2 +1,1 @@
-pub mod Reorder
 pub mod Serving

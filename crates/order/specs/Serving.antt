@@ -5,12 +5,14 @@ use mathlib.Core.List.{List, [], List·Memᴰ}
 use mathlib.Core.Bool.{true}
 use Prim.Native.Nat.{ℕ, _≤_}
 use native.Mathlib.Omega.{arith}
-use lib.ListN.{length, getD, take, replicate, length-replicate}
+use lib.ListN.{length, take, replicate, length-replicate}
 use Rattle.image.specs.declared.cell.Cell.{Cell}
-use Rattle.image.specs.Image.{Version, usable}
-use Rattle.command.specs.declared.verdict.Verdict.{Verdict}
-use Rattle.command.specs.Serve.{heard, readsOf, writesOf}
+use Rattle.image.specs.Version.{Version}
+use Rattle.image.specs.Usable.{usable, address}
+use Rattle.rules.specs.declared.verdict.Verdict.{Verdict}
+use Rattle.command.specs.Reply.{readsOf, writesOf}
 use Rattle.izk.specs.Block.{served}
+use Rattle.izk.specs.Heard.{Hearing}
 
 -- a frame, and an output with room; each call has its own
 pub record Call : Type 0 where
@@ -26,17 +28,17 @@ abbrev pub nothing : Call
 nothing = call []
 
 -- the number and the reply, as it stands in the output; and the image. Characters behind the reply are not spoken of
-abbrev pub step : Version → List ℕ → Call → (ℕ × List ℕ) × List ℕ
-step v m x = let a = served v (x .frame) m (x .out) in ((a .number, take (a .len) (a .out)), a .image)
+abbrev pub step : Hearing → Version → List ℕ → Call → (ℕ × List ℕ) × List ℕ
+step ear v m x = let a = served ear v (x .frame) m (x .out) in ((a .number, take (a .len) (a .out)), a .image)
 
 -- a usable image of address a
 abbrev pub Good : Version → ℕ → List ℕ → Type 0
-Good v a m = (usable v m ≡ true) × (getD m 5 0 ≡ a)
+Good v a m = (usable v m ≡ true) × (address m ≡ a)
 
 -- the first writes a cell that the second reads or writes
 abbrev pub Meets : Verdict → Verdict → Type 0
 Meets x y = (c : Cell) × List·Memᴰ c (writesOf x) × (List·Memᴰ c (readsOf y) ⊎ List·Memᴰ c (writesOf y))
 
 -- at a block of address a, one of the two does so to the other
-abbrev pub Clash : ℕ → Call → Call → Type 0
-Clash a x y = Meets (heard a (x .frame)) (heard a (y .frame)) ⊎ Meets (heard a (y .frame)) (heard a (x .frame))
+abbrev pub Clash : Hearing → ℕ → Call → Call → Type 0
+Clash ear a x y = Meets (ear a (x .frame)) (ear a (y .frame)) ⊎ Meets (ear a (y .frame)) (ear a (x .frame))

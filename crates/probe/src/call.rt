@@ -2,7 +2,7 @@
 use crate::print;
 use crate::script;
 use crate::script::State;
-use frame::Answer;
+use output::Answer;
 ghost use Prim.Native.Nat.{_<_, _≤_};
 ghost use lib.ListN.{length};
 

@@ -3,6 +3,7 @@ mod call;
 mod print;
 mod script;
 
+use image::IMAGE_LENGTH;
 use libc::STDIN_FILENO;
 use script::State;
 
@@ -18,7 +19,7 @@ fn main() {
 fn run(text: &[u8], image: &mut [u8], out: &mut [u8]) {
     let mut state = State {
         at: 0,
-        long: 23753,
+        long: IMAGE_LENGTH,
         room: 269,
     };
     while state.at < text.len() {

@@ -1,7 +1,7 @@
 // A script's records, and what the probe holds between them.
 ghost use mathlib.Core.Path.{_≡_};
-ghost use Prim.Native.Nat.{_+_, _<_, _≤_};
-ghost use lib.ListN.{length};
+ghost use Prim.Native.Nat.{_<_, _≤_};
+ghost use lib.ListN.{length, getD};
 
 // Where the next record begins, and how much of the image buffer and of the output buffer a call is lent.
 pub struct State {
@@ -11,7 +11,9 @@ pub struct State {
 }
 
 // A byte of a record; one past its end counts 0.
-pub(crate) fn byte(rec: &[u8], i: usize) -> u8 {
+pub(crate) fn byte(rec: &[u8], i: usize) -> u8
+    ensures { λ r. ⌜ r ≡ getD (now (rec .entry)) i 0 ⌝ }
+{
     if i < rec.len() { rec[i] } else { 0 }
 }
 

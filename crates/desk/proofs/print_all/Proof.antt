@@ -1,9 +1,9 @@
 -- `desk::print_all` ends: each portion moves on, since the text has room for a line. Assumes nothing.
-use Prim.Native.Nat.{_-_}
 use mathlib.Core.Path.{_≡_, sym}
+use Prim.Native.Nat.{_-_}
+use native.Mathlib.Omega.{arith}
 use lib.Seq.{length-take-le}
 use lib.ListN.{length}
-use native.Mathlib.Omega.{arith}
 use borrow.Author.Needs.{needs}
 use Rattle.desk.proofs.print_all.Statement.{statement}
 use Rattle.desk.proofs.print_all.Tie as tie

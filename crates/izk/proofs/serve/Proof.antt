@@ -2,11 +2,13 @@
 -- served. Assumes nothing.
 use mathlib.Core.Path.{_≡_, sym, _∙_}
 use mathlib.Core.Bool.{true}
-use borrow.Author.Needs.{needs}
-use borrow.Author.Tests.{not-true, not-false}
 use lib.Dec.{lit≤}
 use lib.Seq.{length-take-le}
-use Rattle.image.specs.Image.{first, usable}
+use borrow.Author.Needs.{needs}
+use borrow.Author.Tests.{not-true, not-false}
+use Rattle.image.specs.Version.{current}
+use Rattle.image.specs.Usable.{usable}
+use Rattle.izk.specs.Heard.{heard}
 use Rattle.izk.proofs.Serving.{unusable-is-1, no-room-is-2}
 use Rattle.izk.proofs.Taking.{opened, refused-serves, taken-refuses, contents-short, answered-serves}
 use Rattle.izk.proofs.serve.Statement.{statement}
@@ -19,13 +21,13 @@ same-length : tie.Need-same-length
 same-length c = search needs
 
 returns : tie.Need-returns
-returns c = refused-serves _ _ _ 1 (unusable-is-1 first _ _ _ (sym (c .before .is-usable .ensures) ∙ not-true _ (c .if1 .taken)))
+returns c = refused-serves _ _ _ 1 (unusable-is-1 heard current _ _ _ (sym (c .before .is-usable .ensures) ∙ not-true _ (c .if1 .taken)))
 
 same-length-2 : tie.Need-same-length-2
 same-length-2 c = search needs
 
 returns-2 : tie.Need-returns-2
-returns-2 c = refused-serves _ _ _ 2 (no-room-is-2 first _ _ _ (sym (c .before .before .is-usable .ensures) ∙ not-false _ (c .before .if1 .left)) (c .if2 .taken))
+returns-2 c = refused-serves _ _ _ 2 (no-room-is-2 heard current _ _ _ (sym (c .before .before .is-usable .ensures) ∙ not-false _ (c .before .if1 .left)) (c .if2 .taken))
 
 slice-aggregate-take-apart : tie.Need-slice-aggregate-take-apart
 slice-aggregate-take-apart c = search needs
@@ -36,7 +38,7 @@ take-apart-requires c κs = search needs
 same-length-3 : tie.Need-same-length-3
 same-length-3 c = search needs
 
-is-usable : (c : tie.Else2) → usable first (c .before .before .before .before .before .before .before .args .m .now) ≡ true
+is-usable : (c : tie.Else2) → usable current (c .before .before .before .before .before .before .before .args .m .now) ≡ true
 is-usable c = sym (c .before .before .is-usable .ensures) ∙ not-false _ (c .before .if1 .left)
 
 returns-3 : tie.Need-returns-3

@@ -1,6 +1,6 @@
 -- `run` ends: each record moves on. Assumes nothing.
-use Prim.Native.Nat.{_-_}
 use mathlib.Core.Path.{_≡_}
+use Prim.Native.Nat.{_-_}
 use lib.ListN.{length}
 use borrow.Author.Needs.{needs}
 use Rattle.probe.proofs.run.Statement.{statement}

@@ -1,7 +1,6 @@
 use native.Mathlib.Omega.{arith}
 use borrow.Author.Needs.{needs}
 use Rattle.command.proofs.Doing.{some-stored, stores, tail-is}
-use Rattle.command.proofs.Doing.{some-stored}
 use Rattle.command.proofs.act.change.Statement.{statement}
 use Rattle.command.proofs.act.change.Tie as tie
 

@@ -1,7 +1,7 @@
 use mathlib.Core.Path.{sym}
 use native.Mathlib.Omega.{arith}
 use borrow.Author.Needs.{needs}
-use Rattle.laws.proofs.Bytes.{laid-none, laid-then, laid-long}
+use Rattle.output.proofs.Laying.{laid-none, laid-then, laid-long}
 use Rattle.command.proofs.Doing.{shows, signs, opening}
 use Rattle.command.proofs.act.say.Statement.{statement}
 use Rattle.command.proofs.act.say.Tie as tie

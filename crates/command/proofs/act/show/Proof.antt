@@ -4,13 +4,13 @@ use Rattle.command.proofs.Doing.{image-long, first-inside, shown-inside
 use Rattle.command.proofs.act.show.Statement.{statement}
 use Rattle.command.proofs.act.show.Tie as tie
 
-at-requires : tie.Need-at-requires
-at-requires c κs = search needs
+offset-requires : tie.Need-offset-requires
+offset-requires c κs = search needs
 
 shared-slice-read-extent : tie.Need-shared-slice-read-extent
 shared-slice-read-extent c =
     let s = c .before .before .before .before in
-    omega (arith, image-long (s .args .m .now) (s .pre .1), first-inside (s .args .cell) (s .args .m .now) (s .pre .1) (s .pre .0) (c .before .at .ensures))
+    omega (arith, image-long (s .args .m .now) (s .pre .1), first-inside (s .args .cell) (s .args .m .now) (s .pre .1) (s .pre .0) (c .before .offset .ensures))
 
 extent-requires : tie.Need-extent-requires
 extent-requires c κs = search needs
@@ -18,7 +18,7 @@ extent-requires c κs = search needs
 add-e : tie.Need-add-e
 add-e c =
     let s = c .before .before .before .before .before in
-    omega (arith, shown-inside (s .args .cell) (s .args .m .now) (s .pre .1) (s .pre .0) (c .before .before .at .ensures) (c .extent .ensures))
+    omega (arith, shown-inside (s .args .cell) (s .args .m .now) (s .pre .1) (s .pre .0) (c .before .before .offset .ensures) (c .extent .ensures))
 
 sub-put-all : tie.Need-sub-put-all
 sub-put-all c = search needs
@@ -32,13 +32,13 @@ part-put-all-end c =
     omega (
       arith,
       image-long (s .args .m .now) (s .pre .1),
-      shown-inside (s .args .cell) (s .args .m .now) (s .pre .1) (s .pre .0) (c .before .before .before .at .ensures) (c .before .extent .ensures),
+      shown-inside (s .args .cell) (s .args .m .now) (s .pre .1) (s .pre .0) (c .before .before .before .offset .ensures) (c .before .extent .ensures),
     )
 
 put-all-requires : tie.Need-put-all-requires
 put-all-requires c κs =
     let s = c .before .before .before .before .before .before .before in
-    omega (arith, s .pre .2, shown-few (s .args .cell) (s .args .m .now) (s .pre .1) (s .pre .0) (c .before .before .before .before .at .ensures) (c .before .before .extent .ensures))
+    omega (arith, s .pre .2, shown-few (s .args .cell) (s .args .m .now) (s .pre .1) (s .pre .0) (c .before .before .before .before .offset .ensures) (c .before .before .extent .ensures))
 
 same-length : tie.Need-same-length
 same-length c = search needs
@@ -49,14 +49,14 @@ returns c =
     let x = c .before .before .before .before .before in
     let a = x .before .before in
     let s = a .before .before .before in
-    rw (← (shown-is (s .args .cell) (s .args .m .now) (s .pre .1) (s .pre .0) (a .at .ensures) (x .extent .ensures)))
+    rw (← (shown-is (s .args .cell) (s .args .m .now) (s .pre .1) (s .pre .0) (a .offset .ensures) (x .extent .ensures)))
     p
 
 pub show-spec : {M : Type 1} → statement M
 show-spec =
     tie.close
     (tie.spec
-    at-requires
+    offset-requires
     shared-slice-read-extent
     extent-requires
     add-e

@@ -1,16 +1,17 @@
 use mathlib.Core.Path.{_≡_, sym}
 use mathlib.Core.List.{List}
-use Prim.Native.Nat.{ℕ, _≤_}
+use Prim.Native.Nat.{ℕ, _≤_, _<_}
 use native.Mathlib.Omega.{arith}
 use lib.ListN.{length}
 use lib.Seq.{length-take-le}
-use Rattle.laws.specs.Bytes.{zeros}
-use Rattle.image.specs.Image.{first}
-use Rattle.izk.specs.Block.{served}
-use Rattle.command.specs.Serve.{Serves}
-use Rattle.desk_run.specs.Desk.{left}
-use Rattle.desk_run.proofs.Pieces.{line-short, reply-short, reply-long, line-is}
 use borrow.Author.Needs.{needs}
+use Rattle.laws.specs.Bytes.{zeros}
+use Rattle.command.specs.Reply.{Serves}
+use Rattle.izk.specs.Block.{served}
+use Rattle.desk_run.specs.Desk.{left}
+use Rattle.desk_run.proofs.Pieces.{line-short, reply-short, reply-long, line-is, reply-number}
+use Rattle.izk.specs.Heard.{heard}
+use Rattle.image.specs.Version.{current}
 use Rattle.desk_run.proofs.piece.put_piece.Statement.{statement}
 use Rattle.desk_run.proofs.piece.put_piece.Tie as tie
 
@@ -24,15 +25,18 @@ M d = d .before .before .before .before .before .before .args .m .now
 abbrev Out : tie.After-serve → List ℕ
 Out d = d .serve .last .1 .1 .0
 
-promise : (d : tie.After-serve) → Serves (served first (P d) (M d) (zeros 269)) (d .serve .result) (d .serve .last .1 .0) (Out d)
+promise : (d : tie.After-serve) → Serves (served heard current (P d) (M d) (zeros 269)) (d .serve .result) (d .serve .last .1 .0) (Out d)
 unfolding zeros
 promise d = d .serve .ensures
 
 short : (d : tie.After-serve) → d .serve .result .len ≤ 269
-short d = reply-short first (P d) (M d) (d .serve .result) (d .serve .last .1 .0) (Out d) (promise d)
+short d = reply-short current (P d) (M d) (d .serve .result) (d .serve .last .1 .0) (Out d) (promise d)
+
+few : (d : tie.After-serve) → d .serve .result .number < 100
+few d = reply-number current (P d) (M d) (d .serve .result) (d .serve .last .1 .0) (Out d) (promise d)
 
 long : (d : tie.After-serve) → length (Out d) ≡ 269
-long d = reply-long first (P d) (M d) (d .serve .result) (d .serve .last .1 .0) (Out d) (promise d)
+long d = reply-long current (P d) (M d) (d .serve .result) (d .serve .last .1 .0) (Out d) (promise d)
 
 slice-aggregate-serve : tie.Need-slice-aggregate-serve
 slice-aggregate-serve c = search needs
@@ -53,7 +57,7 @@ slice-aggregate-put-line c =
 put-line-requires : tie.Need-put-line-requires
 put-line-requires c κs =
     let d = c .before .before .before .before .before in
-    omega (arith, line-short (d .serve .result .number) (d .serve .result .len) (Out d) (long d))
+    omega (arith, line-short (d .serve .result .number) (d .serve .result .len) (Out d) (few d) (long d))
 
 same-length : tie.Need-same-length
 same-length c = search needs
@@ -66,7 +70,7 @@ unfolding left
 returns c =
     let l = c .before .before in
     let d = l .before .before .before .before .before .before in
-    let e = line-is first (P d) (M d) (d .serve .result) (d .serve .last .1 .0) (Out d) (promise d) in
+    let e = line-is current (P d) (M d) (d .serve .result) (d .serve .last .1 .0) (Out d) (promise d) in
     (rw e at (l .put-line .ensures), promise d .image-is)
 
 pub put-piece-spec : {M : Type 1} → statement M

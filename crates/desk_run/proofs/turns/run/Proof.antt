@@ -4,19 +4,19 @@ use Prim.Native.Nat.{_+_, _-_, _≤_, _<_}
 use native.Mathlib.Omega.{arith}
 use lib.ListN.{length, drop}
 use borrow.Author.Needs.{needs}
-use Rattle.image.specs.Image.{first}
-use Rattle.lines.specs.Lines.{pieces}
-use Rattle.lines.proofs.Cuts.{end-most, end-past}
+use Rattle.text.specs.Cut.{pieces}
+use Rattle.text.proofs.Cuts.{end-most, end-past}
 use Rattle.desk_run.specs.Desk.{ran}
 use Rattle.desk_run.proofs.Pieces.{laid-fits}
 use Rattle.desk_run.proofs.Ran.{ran-full, ran-end, ran-again, runs-of}
+use Rattle.image.specs.Version.{current}
 use Rattle.desk_run.proofs.turns.run.Statement.{statement}
 use Rattle.desk_run.proofs.turns.run.Tie as tie
 
 abbrev Inv-loop : tie.InvT-loop
 Inv-loop input from m₀ text₀ next₀ end₀ m text next end =
     (end .at ≤ length text) × (length text ≡ length text₀) × (length m ≡ length m₀)
-    × (ran first next (end .at) m text (pieces (drop next input)) ≡ ran first from 0 m₀ text₀ (pieces (drop from input)))
+    × (ran current next (end .at) m text (pieces (drop next input)) ≡ ran current from 0 m₀ text₀ (pieces (drop from input)))
 
 abbrev μ-loop : tie.MeasureT-loop
 μ-loop input from m₀ text₀ next₀ end₀ m text next end = length input - next
@@ -46,7 +46,7 @@ returns : tie.Need-returns Inv-loop μ-loop
 returns c =
     let l = c .before .before .before in
     let i = l .loop .inv in
-    runs-of _ _ _ _ _ _ _ _ (sym (ran-full first (l .loop .next) (l .loop .end .at) (l .loop .m) (l .loop .text) _ (omega arith)) ∙ i .3) (i .0) (i .1)
+    runs-of _ _ _ _ _ _ _ _ (sym (ran-full current (l .loop .next) (l .loop .end .at) (l .loop .m) (l .loop .text) _ (omega arith)) ∙ i .3) (i .0) (i .1)
 
 piece-end-requires : tie.Need-piece-end-requires Inv-loop μ-loop
 piece-end-requires c κs = search needs
@@ -74,10 +74,10 @@ loop-again c =
     let l = t .before in
     let i = l .loop .inv in
     let room : l .loop .end .at + 300 ≤ length (l .loop .text) = omega arith in (
-      laid-fits first _ _ _ _ _ _ (p .put-piece .ensures .0) room,
+      laid-fits current _ _ _ _ _ _ (p .put-piece .ensures .0) room,
       omega arith,
       omega arith,
-      ran-again first _ _ _ _ _ _ _ _ _ _ (t .loop-test .taken) room (d .piece-end .ensures) (p .put-piece .ensures .0) (p .put-piece .ensures .1) (i .3),
+      ran-again current _ _ _ _ _ _ _ _ _ _ (t .loop-test .taken) room (d .piece-end .ensures) (p .put-piece .ensures .0) (p .put-piece .ensures .1) (i .3),
     )
 
 same-length-3 : tie.Need-same-length-3 Inv-loop μ-loop
@@ -90,7 +90,7 @@ returns-2 : tie.Need-returns-2 Inv-loop μ-loop
 returns-2 c =
     let l = c .before in
     let i = l .loop .inv in
-    runs-of _ _ _ _ _ _ _ _ (sym (ran-end first (l .loop .next) (l .loop .end .at) (l .loop .m) (l .loop .text) _ (c .loop-test .left)) ∙ i .3) (i .0) (i .1)
+    runs-of _ _ _ _ _ _ _ _ (sym (ran-end current (l .loop .next) (l .loop .end .at) (l .loop .m) (l .loop .text) _ (c .loop-test .left)) ∙ i .3) (i .0) (i .1)
 
 pub run-spec : {M : Type 1} → statement M
 run-spec =

@@ -9,10 +9,12 @@ use lib.Dec.{eqb}
 use borrow.Author.Tests.{not-true, not-false, eq-eqb, ne-eqb}
 use borrow.Author.Needs.{needs}
 use Rattle.laws.specs.Bytes.{lay}
+use Rattle.output.specs.Output.{refuse, written}
+use Rattle.output.proofs.Outcomes.{refused, filled}
 use Rattle.frame.specs.Digits.{allDigits}
-use Rattle.frame.specs.Frame.{refuse, written, lengthOk, endsOk, inner, contentsOf, apart}
+use Rattle.frame.specs.Apart.{lengthOk, endsOk, inner, contentsOf, apart}
 use Rattle.frame.proofs.Body.{chars-are, work-contents, work-length, work-ok}
-use Rattle.frame.proofs.Answers.{length-below, length-above, length-even, length-right, length-fails, ends-fail, digits-fail, sum-decides, apart-room, apart-checked, refused, filled}
+use Rattle.frame.proofs.Answers.{length-below, length-above, length-even, length-right, length-fails, ends-fail, digits-fail, sum-decides, apart-room, apart-checked}
 use Rattle.frame.proofs.apart.take_apart.Statement.{statement}
 use Rattle.frame.proofs.apart.take_apart.Tie as tie
 

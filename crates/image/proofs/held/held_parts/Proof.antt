@@ -2,16 +2,18 @@ use mathlib.Core.Path.{_≡_, sym, _∙_}
 use mathlib.Core.Bool.{true}
 use native.Mathlib.Omega.{arith}
 use borrow.Author.Tests.{not-true, not-false}
-use Rattle.laws.specs.Checks.{judged}
-use Rattle.image.specs.Image.{first, word, usable}
-use Rattle.image.specs.Held.{heldParts}
-use Rattle.image.proofs.Places.{placed-at, not-placed}
-use Rattle.image.proofs.Usable.{facts}
 use borrow.Author.Needs.{needs}
+use Rattle.laws.specs.Checks.{judged}
+use Rattle.image.specs.Version.{current}
+use Rattle.image.specs.Words.{tableWord}
+use Rattle.image.specs.Usable.{usable}
+use Rattle.image.specs.Held.{heldParts}
+use Rattle.image.proofs.UsableFacts.{facts}
+use Rattle.image.proofs.Indices.{index-is, no-index}
 use Rattle.image.proofs.held.held_parts.Statement.{statement}
 use Rattle.image.proofs.held.held_parts.Tie as tie
 
-good : (c : tie.After-place-of) → usable first (c .before .before .before .before .args .m .now) ≡ true
+good : (c : tie.After-table-index) → usable current (c .before .before .before .before .args .m .now) ≡ true
 good c = sym (c .before .before .is-usable .ensures) ∙ not-false _ (c .before .if1 .left)
 
 is-usable-requires : tie.Need-is-usable-requires
@@ -24,15 +26,15 @@ returns : tie.Need-returns
 unfolding heldParts judged
 returns c = rw (sym (c .before .before .is-usable .ensures) ∙ not-true _ (c .before .if1 .taken)) (c .refused .ensures)
 
-place-of-requires : tie.Need-place-of-requires
-place-of-requires c κs = search needs
+table-index-requires : tie.Need-table-index-requires
+table-index-requires c κs = search needs
 
 refused-requires-2 : tie.Need-refused-requires-2
 refused-requires-2 c κs = search needs
 
 returns-2 : tie.Need-returns-2
 unfolding heldParts judged
-returns-2 c = rw (good (c .before .before), not-placed _ _ (c .before .before .place-of .ensures) (c .before .if2 .taken)) (c .refused2 .ensures)
+returns-2 c = rw (good (c .before .before), no-index _ _ (c .before .before .table-index .ensures) (c .before .if2 .taken)) (c .refused2 .ensures)
 
 cast-word-at : tie.Need-cast-word-at
 cast-word-at c = search needs
@@ -44,17 +46,17 @@ add-word-at : tie.Need-add-word-at
 add-word-at c = search needs
 
 word-at-requires : tie.Need-word-at-requires
-word-at-requires c κs = omega (arith, facts first _ (good (c .before)) .long-is)
+word-at-requires c κs = omega (arith, facts current _ (good (c .before)) .long-is)
 
 parts-of-requires : tie.Need-parts-of-requires
-unfolding word
-parts-of-requires c κs = omega (arith, facts first _ (good (c .before .before)) .words (c .before .before .place-of .result) (omega arith))
+unfolding tableWord
+parts-of-requires c κs = omega (arith, facts current _ (good (c .before .before)) .words (c .before .before .table-index .result) (omega arith))
 
 returns-3 : tie.Need-returns-3
-unfolding heldParts judged word
+unfolding heldParts judged tableWord
 returns-3 c =
     let d = c .before .before .before in
-    let p = placed-at _ _ (d .place-of .ensures) (omega arith) in
+    let p = index-is _ _ (d .table-index .ensures) (omega arith) in
     rw (good d, p .0, ← p .1, ← c .before .word-at .ensures) (c .parts-of .ensures)
 
 pub held-parts-spec : {M : Type 1} → statement M
@@ -64,7 +66,7 @@ held-parts-spec =
     is-usable-requires
     refused-requires
     returns
-    place-of-requires
+    table-index-requires
     refused-requires-2
     returns-2
     cast-word-at

@@ -1,5 +1,5 @@
-use native.Mathlib.Omega.{arith}
 use Prim.Native.Nat.{_-_}
+use native.Mathlib.Omega.{arith}
 use lib.Count.{ones-le, trailing-le}
 use Rattle.laws.proofs.Bits.{ones-are, trailing-ones}
 use Rattle.image.specs.Held.{heldOf}

@@ -1,6 +1,6 @@
+use borrow.Author.Needs.{needs}
 use Rattle.laws.proofs.Bits.{one-shifted}
 use Rattle.image.proofs.Words.{mask-test}
-use borrow.Author.Needs.{needs}
 use Rattle.image.proofs.word.has_bit.Statement.{statement}
 use Rattle.image.proofs.word.has_bit.Tie as tie
 

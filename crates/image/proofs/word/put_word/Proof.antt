@@ -1,9 +1,9 @@
 use mathlib.Core.Path.{sym}
 use native.Mathlib.Numerals.{add-one}
-use Rattle.laws.specs.Bytes.{two}
 use native.Mathlib.Omega.{arith}
 use lib.ListN.{length-set}
 use borrow.Author.Needs.{needs}
+use Rattle.laws.specs.Bytes.{two}
 use Rattle.laws.proofs.Bytes.{lay-is}
 use Rattle.image.proofs.word.put_word.Statement.{statement}
 use Rattle.image.proofs.word.put_word.Tie as tie

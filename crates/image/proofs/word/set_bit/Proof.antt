@@ -1,5 +1,5 @@
-use Rattle.laws.proofs.Bits.{one-shifted, or-is}
 use borrow.Author.Needs.{needs}
+use Rattle.laws.proofs.Bits.{one-shifted, or-is}
 use Rattle.image.proofs.word.set_bit.Statement.{statement}
 use Rattle.image.proofs.word.set_bit.Tie as tie
 

@@ -1,6 +1,6 @@
 use native.Mathlib.Omega.{arith}
-use Rattle.laws.specs.Bytes.{pair}
 use borrow.Author.Needs.{needs}
+use Rattle.laws.specs.Bytes.{wordAt}
 use Rattle.image.proofs.word.word_at.Statement.{statement}
 use Rattle.image.proofs.word.word_at.Tie as tie
 
@@ -26,7 +26,7 @@ add-result : tie.Need-add-result
 add-result c = search needs
 
 returns : tie.Need-returns
-unfolding pair
+unfolding wordAt
 returns c = omega arith
 
 pub word-at-spec : {M : Type 1} → statement M

@@ -1,6 +1,6 @@
 -- `fill` is safe and ends. Assumes nothing.
-use Prim.Native.Nat.{_-_}
 use mathlib.Core.Path.{_≡_}
+use Prim.Native.Nat.{_-_}
 use lib.ListN.{length}
 use borrow.Author.Needs.{needs}
 use Rattle.probe.proofs.call.fill.Statement.{statement}

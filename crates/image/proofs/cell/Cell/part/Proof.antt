@@ -1,24 +1,24 @@
-use native.Mathlib.Omega.{arith}
 use mathlib.Core.Bool.{and-false}
+use native.Mathlib.Omega.{arith}
+use borrow.Author.Needs.{needs}
 use Rattle.laws.proofs.Tests.{within-in, within-below, within-above}
 use Rattle.image.specs.Cell.{when, partNamed}
-use Rattle.image.proofs.Places.{placed-at, not-placed}
-use borrow.Author.Needs.{needs}
+use Rattle.image.proofs.Indices.{index-is, no-index}
 use Rattle.image.proofs.cell.Cell.part.Statement.{statement}
 use Rattle.image.proofs.cell.Cell.part.Tie as tie
 
-place-of-requires : tie.Need-place-of-requires
-place-of-requires c κs = search needs
+table-index-requires : tie.Need-table-index-requires
+table-index-requires c κs = search needs
 
 returns : tie.Need-returns
 unfolding partNamed when
-returns c = rw (not-placed _ _ (c .before .place-of .ensures) (c .if1 .taken))
+returns c = rw (no-index _ _ (c .before .table-index .ensures) (c .if1 .taken))
 
 returns-2 : tie.Need-returns-2
 unfolding partNamed when
 returns-2 c =
     let d = c .before .before in
-    let p = placed-at _ _ (d .before .place-of .ensures) (d .if1 .left) in
+    let p = index-is _ _ (d .before .table-index .ensures) (d .if1 .left) in
     rw (p .0, ← p .1, within-in 1 11 _ (c .before .if2 .left) (omega arith))
 
 returns-3 : tie.Need-returns-3
@@ -30,4 +30,4 @@ unfolding partNamed when
 returns-4 c = rw (within-above 1 11 _ (c .if3 .left), and-false)
 
 pub part-spec : {M : Type 1} → statement M
-part-spec = tie.close (tie.spec place-of-requires returns returns-2 returns-3 returns-4)
+part-spec = tie.close (tie.spec table-index-requires returns returns-2 returns-3 returns-4)

@@ -1,0 +1,46 @@
+// Answering a body: document 01's number, the reply frame in the output, and the image after it.
+use crate::act::change;
+use crate::act::say;
+use image::Cell;
+use output::Answer;
+use rules::Act;
+use rules::Verdict;
+ghost use mathlib.Core.Path.{_≡_};
+ghost use mathlib.Core.Bool.{true};
+ghost use Prim.Native.Nat.{_≤_};
+ghost use lib.ListN.{length};
+ghost use Rattle.image.specs.Version.{current};
+ghost use Rattle.image.specs.Usable.{usable};
+ghost use Rattle.rules.specs.declared.verdict.Verdict.the-variants.{Accepted};
+ghost use Rattle.rules.specs.Fits.{FitAccepted};
+ghost use Rattle.command.specs.Reply.{done, replied, sent, Serves};
+
+// The reply is laid down before the image changes. Its array comes in, so that its list stays a name in the proof.
+fn accept(
+    echo: usize,
+    act: Act,
+    cell: Cell,
+    body: &[u8],
+    m: &mut [u8],
+    out: &mut [u8],
+    mut reply: [u8; 132],
+) -> Answer
+    requires { ⌜ FitAccepted echo act cell (now body) × (usable current (now m) ≡ true) × (269 ≤ length (now out)) ⌝ }
+    ensures { λ r. ⌜ Serves (sent (done current (Accepted echo act cell) (now (body .entry)) (now (m .entry))) (now (out .entry))) r (now (m .exit)) (now (out .exit)) ⌝ }
+{
+    let end = say(echo, act, cell, body, m, &mut reply);
+    let n = end.at;
+    change(act, cell, body, m);
+    frame::build(&reply[..n], out)
+}
+
+// A body without its checksum, on a usable image.
+pub fn answer(body: &[u8], m: &mut [u8], out: &mut [u8]) -> Answer
+    requires { ⌜ (usable current (now m) ≡ true) × (length (now body) ≤ 132) × (269 ≤ length (now out)) ⌝ }
+    ensures { λ r. ⌜ Serves (sent (replied current (now (body .entry)) (now (m .entry))) (now (out .entry))) r (now (m .exit)) (now (out .exit)) ⌝ }
+{
+    match rules::recognise(body, m[5]) {
+        Verdict::Refused(n) => Answer { number: n, len: 0 },
+        Verdict::Accepted(echo, act, cell) => { accept(echo, act, cell, body, m, out, [0u8; 132]) }
+    }
+}

@@ -1,0 +1,50 @@
+-- Usable, as facts. Assumes nothing.
+use mathlib.Core.Path.{_≡_}
+use mathlib.Core.List.{List}
+use mathlib.Core.Bool.{true}
+use Prim.Native.Nat.{ℕ, _+_, _*_, _≤_, _<_}
+use native.Mathlib.Omega.{arith}
+use lib.ListN.{length, getD}
+use borrow.Author.Tests.{leb-true, le-leb, eqb-true, eq-eqb}
+use Rattle.laws.proofs.Tests.{and-both, every-at, every-of}
+use Rattle.image.specs.Version.{Version, imageLength}
+use Rattle.image.specs.Words.{tableWord}
+use Rattle.image.specs.Usable.{countOk, wordOk, usable, markOk, addressOk, address}
+
+pub record Usable (v : Version) (m : List ℕ) : Type 0 where
+  pub long-is : length m ≡ imageLength v
+  pub mark : markOk v m ≡ true
+  pub address-is : addressOk m ≡ true
+  pub counts : (e : ℕ) → e < 8 → getD m (713 + 64 * e) 0 ≤ 21
+  pub words : (k : ℕ) → k < 16 → tableWord m k ≤ 2047
+
+pub facts : (v : Version) (m : List ℕ) → usable v m ≡ true → Usable v m
+unfolding usable countOk wordOk
+facts v m h =
+    let p = and-both _ _ h in
+    let q = and-both _ _ (p .1) in
+    let a = and-both _ _ (q .1) in
+    let r = and-both _ _ (a .1) in
+    record {
+      long-is = eqb-true _ _ (p .0);
+      mark = q .0;
+      address-is = a .0;
+      counts = λ e l. leb-true _ _ (every-at (countOk m) 8 e (r .0) l);
+      words = λ k l. leb-true _ _ (every-at (wordOk m) 16 k (r .1) l);
+    }
+
+pub usable-of : (v : Version) (m : List ℕ) → Usable v m → usable v m ≡ true
+unfolding usable countOk wordOk
+usable-of v m u =
+    let c = every-of (countOk m) 8 (λ e l. le-leb _ _ (u .counts e l)) in
+    let w = every-of (wordOk m) 16 (λ k l. le-leb _ _ (u .words k l)) in
+    rw (eq-eqb _ _ (u .long-is), u .mark, u .address-is, c, w)
+
+-- the mark and the version are the first five bytes, the address the sixth
+pub mark-same : (v : Version) (m m′ : List ℕ) → ((i : ℕ) → i < 6 → getD m′ i 0 ≡ getD m i 0) → markOk v m′ ≡ markOk v m
+unfolding markOk
+mark-same v m m′ h = rw (h 0 (omega arith), h 1 (omega arith), h 2 (omega arith), h 3 (omega arith), h 4 (omega arith))
+
+pub address-same : (m m′ : List ℕ) → address m′ ≡ address m → addressOk m′ ≡ addressOk m
+unfolding addressOk
+address-same m m′ e = rw e

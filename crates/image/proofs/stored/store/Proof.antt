@@ -1,0 +1,51 @@
+use mathlib.Core.Path.{_∙_}
+use native.Mathlib.Omega.{arith}
+use borrow.Author.Needs.{needs}
+use Rattle.image.proofs.Storing.{store-room, stored-is}
+use Rattle.image.proofs.stored.store.Statement.{statement}
+use Rattle.image.proofs.stored.store.Tie as tie
+
+offset-requires : tie.Need-offset-requires
+offset-requires c κs = search needs
+
+put-all-requires : tie.Need-put-all-requires
+put-all-requires c κs =
+    let s = c .before .before .before .before in
+    omega (arith, store-room (s .pre .0) (c .before .offset .ensures), s .pre .1)
+
+size-requires : tie.Need-size-requires
+size-requires c κs = search needs
+
+sub-left : tie.Need-sub-left
+sub-left c = search needs
+
+put-zeros-requires : tie.Need-put-zeros-requires
+put-zeros-requires c κs =
+    let a = c .before .before .before .before .before .before in
+    omega (arith, store-room (a .before .before .before .pre .0) (a .offset .ensures))
+
+mark-requires : tie.Need-mark-requires
+mark-requires c κs = search needs
+
+same-length : tie.Need-same-length
+same-length c = search needs
+
+returns : tie.Need-returns
+returns c =
+    let z = c .before .before .before .before .before .before in
+    let p = z .before .before .before .before .before in
+    c .before .before .mark .ensures
+    ∙ stored-is _ _ _ (p .before .before .offset .ensures) (z .before .before .size .ensures) (p .put-all .ensures .past) (p .put-all .ensures .laid) (z .put-zeros .ensures .laid)
+
+pub store-spec : {M : Type 1} → statement M
+store-spec =
+    tie.close
+    (tie.spec
+    offset-requires
+    put-all-requires
+    size-requires
+    sub-left
+    put-zeros-requires
+    mark-requires
+    same-length
+    returns)

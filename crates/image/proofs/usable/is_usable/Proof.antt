@@ -1,0 +1,60 @@
+-- Each early return is the test that the definition has there. Assumes nothing.
+use mathlib.Core.Path.{sym, _∙_}
+use mathlib.Core.Bool.{and-false}
+use borrow.Author.Needs.{needs}
+use borrow.Author.Tests.{ne-eqb, not-true, not-false}
+use Rattle.image.specs.Usable.{addressOk, usable}
+use Rattle.image.proofs.usable.is_usable.Statement.{statement}
+use Rattle.image.proofs.usable.is_usable.Tie as tie
+
+returns : tie.Need-returns
+unfolding usable
+returns c = rw (ne-eqb _ _ (c .if1 .taken))
+
+mark-ok-requires : tie.Need-mark-ok-requires
+mark-ok-requires c κs = search needs
+
+returns-2 : tie.Need-returns-2
+unfolding usable
+returns-2 c = rw (sym (c .before .mark-ok .ensures) ∙ not-true _ (c .if2 .taken), and-false)
+
+shared-slice-read-if3 : tie.Need-shared-slice-read-if3
+shared-slice-read-if3 c = search needs
+
+returns-3 : tie.Need-returns-3
+unfolding usable addressOk
+returns-3 c = simp (c .if3 .taken, and-false)
+
+counts-ok-requires : tie.Need-counts-ok-requires
+counts-ok-requires c κs = search needs
+
+returns-4 : tie.Need-returns-4
+unfolding usable
+returns-4 c = simp (sym (c .before .counts-ok .ensures) ∙ not-true _ (c .if4 .taken), and-false)
+
+words-ok-requires : tie.Need-words-ok-requires
+words-ok-requires c κs = search needs
+
+returns-5 : tie.Need-returns-5
+unfolding usable addressOk
+returns-5 c =
+    let u = c .before in
+    let a = u .before .before in
+    let t = a .before .before in
+    let mark = sym (t .before .mark-ok .ensures) ∙ not-false _ (t .if2 .left) in
+    let counts = sym (u .before .counts-ok .ensures) ∙ not-false _ (u .if4 .left) in
+    rw (t .before .before .if1 .left, mark, ne-eqb _ _ (a .if3 .left), counts) (c .words-ok .ensures)
+
+pub is-usable-spec : {M : Type 1} → statement M
+is-usable-spec =
+    tie.close
+    (tie.spec
+    returns
+    mark-ok-requires
+    returns-2
+    shared-slice-read-if3
+    returns-3
+    counts-ok-requires
+    returns-4
+    words-ok-requires
+    returns-5)

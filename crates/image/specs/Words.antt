@@ -1,0 +1,39 @@
+-- Where words stand in an image, and the words of the tables (document 01, "The image"). Assumes nothing.
+use mathlib.Core.List.{List, [], _∷_}
+use mathlib.Core.Bool.{Bool, _&&_, _||_}
+use Prim.Native.Nat.{ℕ, _+_, _*_}
+use lib.Dec.{leb}
+use Rattle.laws.specs.Bytes.{wordAt}
+use Rattle.laws.specs.Checks.{all}
+use Rattle.image.specs.declared.cell.Cell.{Cell}
+use Rattle.image.specs.Version.{Version, v1, imageLength}
+use Rattle.image.specs.Cell.{offset, size}
+
+-- a number of bytes from an offset on
+pub record Span : Type 0 where
+  pub from : ℕ
+  pub count : ℕ
+
+-- all words of a version; none of them lies in a cell. Sixteen words, one a table, from 17 on
+abbrev pub words : Version → List Span
+words v1 = record { from = 17; count = 32 } ∷ []
+
+-- the word of the table that stands k-th in the image, from 0
+abbrev pub wordOffset : ℕ → ℕ
+wordOffset k = 17 + 2 * k
+
+unfoldable pub tableWord : List ℕ → ℕ → ℕ
+tableWord m k = wordAt m (wordOffset k)
+
+-- ---- tests of where words and cells lie
+
+-- behind mark, version and address, and inside the image
+unfoldable pub spanInside : Version → Span → Bool
+spanInside v s = leb 6 (s .from) && leb (s .from + s .count) (imageLength v)
+
+-- before it or behind it
+unfoldable pub off : Cell → Span → Bool
+off c s = leb (offset c + size c) (s .from) || leb (s .from + s .count) (offset c)
+
+unfoldable pub inside : Version → Cell → Bool
+inside v c = leb 6 (offset c) && (leb (offset c + size c) (imageLength v) && all (off c) (words v))

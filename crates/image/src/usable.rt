@@ -1,0 +1,73 @@
+// When an image is usable. A byte that no rule names is not judged.
+use crate::cell::Cell;
+use crate::version::IMAGE_LENGTH;
+use crate::version::VERSION;
+use crate::word::word_at;
+ghost use mathlib.Core.Path.{_≡_};
+ghost use lib.ListN.{length};
+ghost use Rattle.laws.specs.Checks.{every};
+ghost use Rattle.image.specs.Version.{current, imageLength};
+ghost use Rattle.image.specs.Usable.{markOk, countOk, wordOk, usable};
+
+// The letters IZK, and the version.
+fn mark_ok(m: &[u8]) -> bool
+    requires { ⌜ length (now m) ≡ imageLength current ⌝ }
+    ensures { λ r. ⌜ r ≡ markOk current (now (m .entry)) ⌝ }
+{
+    if m[0] != 73 {
+        return false;
+    }
+    if m[1] != 90 {
+        return false;
+    }
+    if m[2] != 75 {
+        return false;
+    }
+    if m[3] != 0 {
+        return false;
+    }
+    m[4] == VERSION
+}
+
+fn counts_ok(m: &[u8]) -> bool
+    requires { ⌜ length (now m) ≡ imageLength current ⌝ }
+    ensures { λ r. ⌜ r ≡ every (countOk (now (m .entry))) 8 ⌝ }
+{
+    for e in 0..8usize {
+        if 21 < m[Cell::ERRORS_OFFSET + Cell::ERRORS_SIZE * e] {
+            return false;
+        }
+    }
+    true
+}
+
+fn words_ok(m: &[u8]) -> bool
+    requires { ⌜ length (now m) ≡ imageLength current ⌝ }
+    ensures { λ r. ⌜ r ≡ every (wordOk (now (m .entry))) 16 ⌝ }
+{
+    for k in 0..16usize {
+        let w = word_at(m, Cell::WORDS_OFFSET + Cell::WORD_SIZE * k);
+        if 2047 < w {
+            return false;
+        }
+    }
+    true
+}
+
+pub fn is_usable(m: &[u8]) -> bool
+    ensures { λ r. ⌜ r ≡ usable current (now (m .entry)) ⌝ }
+{
+    if m.len() != IMAGE_LENGTH {
+        return false;
+    }
+    if !mark_ok(m) {
+        return false;
+    }
+    if m[5] == 0 {
+        return false;
+    }
+    if !counts_ok(m) {
+        return false;
+    }
+    words_ok(m)
+}

@@ -1,0 +1,1 @@
+// No code: serving a list in another order, for any step.

@@ -1,0 +1,101 @@
+-- What the code that judges a body cites: the table's lines, reserve bytes and rising rows, as a loop or a match meets them. Assumes nothing.
+use mathlib.Core.Path.{_≡_, refl, sym, ap, _∙_}
+use mathlib.Core.Bool.{true, false, _&&_, and-true, and-false}
+use mathlib.Core.List.{List, [], _∷_}
+use Prim.Native.Nat.{ℕ, suc, _+_, _-_, _*_, _≤_, _<_}
+use native.Mathlib.Numerals.{add-one}
+use native.Mathlib.Omega.{arith}
+use lib.ListN.{length, getD, drop, length-drop}
+use lib.Dec.{ltb}
+use borrow.Author.Tests.{eq-eqb, ne-eqb, lt-ltb, le-ltb}
+use Rattle.laws.proofs.Walks.{next, next2}
+use Rattle.image.specs.declared.cell.Named.the-variants as Named
+use Rattle.image.specs.Cell.{when, errorsNamed}
+use Rattle.rules.specs.declared.rule.Found.the-variants.{Nothing}
+use Rattle.rules.specs.Rules.{Command, byte, ruleOf, rowsNamed, zeroFrom, blank, warmth, rises}
+
+-- ---- the table
+
+-- what the last arm of a match on k knows: k is the command of no line, each of which one arm more ruled out
+abbrev pub NoneOf : ℕ → Type 0 → List Command → Type 0
+NoneOf k T [] = T
+NoneOf k T (l ∷ ls) = NoneOf k (T × (k ≡ l .number → ⊥)) ls
+
+known : (k : ℕ) (T : Type 0) (ls : List Command) → NoneOf k T ls → T × (Nothing ≡ ruleOf k ls)
+unfolding ruleOf
+known k T [] h = (h, refl)
+known k T (l ∷ ls) h =
+    let p = known k (T × (k ≡ l .number → ⊥)) ls h in
+    (p .0 .0, rw (ne-eqb (l .number) k (λ e. p .0 .1 (sym e))) (p .1))
+
+pub no-line : (k : ℕ) (ls : List Command) → NoneOf k (Unit {0}) ls → Nothing ≡ ruleOf k ls
+no-line k ls h = known k (Unit {0}) ls h .1
+
+-- ---- the count of rows
+
+module _ (c : List ℕ) (n : ℕ) (counted : n ≡ byte c 4) where
+  pub rows-uncounted : (4 + 3 * n ≡ length c → ⊥) → Named.Nothing ≡ rowsNamed c
+  unfolding rowsNamed when
+  rows-uncounted h = rw (← counted, ne-eqb _ _ h, and-false)
+
+  pub rows-counted : (t : ℕ) → 4 + 3 * n ≡ length c → t ≡ byte c 3 → errorsNamed t ≡ rowsNamed c
+  unfolding rowsNamed errorsNamed
+  rows-counted t h e = rw (← counted, eq-eqb _ _ h, and-true, e)
+
+-- ---- reserve
+
+module _ (c : List ℕ) (b to : ℕ) where
+  pub blank-next : b ≤ to → byte c b ≡ 0 → blank c (b + 1) to ≡ blank c b to
+  unfolding blank zeroFrom
+  blank-next h e =
+      let n : to + 1 - b ≡ suc (to - b) = omega arith in
+      let m : to + 1 - (b + 1) ≡ to - b = omega arith in
+      rw (n, m, add-one, eq-eqb _ _ e)
+
+  pub blank-fails : b ≤ to → (byte c b ≡ 0 → ⊥) → blank c b to ≡ false
+  unfolding blank zeroFrom
+  blank-fails h e =
+      let n : to + 1 - b ≡ suc (to - b) = omega arith in
+      rw (n, ne-eqb _ _ e)
+
+  pub blank-done : to < b → blank c b to ≡ true
+  unfolding blank zeroFrom
+  blank-done h =
+      let n : to + 1 - b ≡ 0 = omega arith in
+      rw n
+
+-- ---- rows
+
+few-rows : (l : List ℕ) → length l ≤ 3 → rises l ≡ true
+unfolding rises
+few-rows [] h = refl
+few-rows (t ∷ []) h = refl
+few-rows (t ∷ (x ∷ [])) h = refl
+few-rows (t ∷ (x ∷ (y ∷ []))) h = refl
+few-rows (t ∷ (x ∷ (y ∷ (u ∷ rows)))) h = absurd (let z : ⊥ = omega arith in z)
+
+module _ (s : List ℕ) (i : ℕ) where
+  -- two rows: four bytes and what follows
+  four : i + 3 < length s → drop i s ≡ getD s i 0 ∷ (getD s (i + 1) 0 ∷ (getD s (i + 2) 0 ∷ (getD s (i + 3) 0 ∷ drop (i + 4) s)))
+  four h =
+      let h1 : i + 1 < length s = omega arith in
+      let h2 : i + 2 + 1 < length s = omega arith in
+      let e : i + 2 + 1 ≡ i + 3 = omega arith in
+      let f : i + 2 + 2 ≡ i + 4 = omega arith in
+      next2 s i h1 ∙ ap (λ (l : List ℕ). getD s i 0 ∷ (getD s (i + 1) 0 ∷ l)) (rw (← e, ← f) (next2 s (i + 2) h2))
+
+  two-rows : i + 3 < length s → rises (drop i s) ≡ (ltb (warmth (getD s i 0)) (warmth (getD s (i + 3) 0)) && rises (drop (i + 3) s))
+  unfolding rises
+  two-rows h =
+      let e : i + 3 + 1 ≡ i + 4 = omega arith in
+      let n : drop (i + 3) s ≡ getD s (i + 3) 0 ∷ drop (i + 4) s = rw (← e) (next s (i + 3) h) in
+      rw (four h, n)
+
+  pub rises-next : i + 3 < length s → warmth (getD s i 0) < warmth (getD s (i + 3) 0) → rises (drop (i + 3) s) ≡ rises (drop i s)
+  rises-next h l = rw (two-rows h, lt-ltb _ _ l)
+
+  pub rises-fails : i + 3 < length s → warmth (getD s (i + 3) 0) ≤ warmth (getD s i 0) → rises (drop i s) ≡ false
+  rises-fails h l = rw (two-rows h, le-ltb _ _ l)
+
+  pub rises-done : length s ≤ i + 3 → rises (drop i s) ≡ true
+  rises-done h = few-rows (drop i s) (omega (arith, length-drop i s))

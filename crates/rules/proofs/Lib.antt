@@ -1,0 +1,6 @@
+pub mod Naming
+pub mod Fit
+pub mod Numbers
+pub mod Warmth
+pub mod Judging
+pub mod Following

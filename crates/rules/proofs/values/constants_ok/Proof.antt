@@ -1,0 +1,55 @@
+use mathlib.Core.Bool.{and-assoc}
+use borrow.Author.Needs.{needs}
+use Rattle.rules.specs.Rules.{constantsOk}
+use Rattle.rules.proofs.values.constants_ok.Statement.{statement}
+use Rattle.rules.proofs.values.constants_ok.Tie as tie
+
+is-blank-requires : tie.Need-is-blank-requires
+is-blank-requires c κs = search needs
+
+is-blank-requires-2 : tie.Need-is-blank-requires-2
+is-blank-requires-2 c κs = search needs
+
+is-blank-requires-3 : tie.Need-is-blank-requires-3
+is-blank-requires-3 c κs = search needs
+
+is-blank-requires-4 : tie.Need-is-blank-requires-4
+is-blank-requires-4 c κs = search needs
+
+is-blank-requires-5 : tie.Need-is-blank-requires-5
+is-blank-requires-5 c κs = search needs
+
+is-blank-requires-6 : tie.Need-is-blank-requires-6
+is-blank-requires-6 c κs = search needs
+
+is-blank-requires-7 : tie.Need-is-blank-requires-7
+is-blank-requires-7 c κs = search needs
+
+is-blank-requires-8 : tie.Need-is-blank-requires-8
+is-blank-requires-8 c κs = search needs
+
+byte-requires : tie.Need-byte-requires
+byte-requires c κs = search needs
+
+is-within-requires : tie.Need-is-within-requires
+is-within-requires c κs = search needs
+
+returns : tie.Need-returns
+unfolding constantsOk
+returns c = simp and-assoc (cc)
+
+pub constants-ok-spec : {M : Type 1} → statement M
+constants-ok-spec =
+    tie.close
+    (tie.spec
+    is-blank-requires
+    is-blank-requires-2
+    is-blank-requires-3
+    is-blank-requires-4
+    is-blank-requires-5
+    is-blank-requires-6
+    is-blank-requires-7
+    is-blank-requires-8
+    byte-requires
+    is-within-requires
+    returns)

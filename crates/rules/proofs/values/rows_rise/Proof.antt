@@ -1,0 +1,77 @@
+-- The invariant: the rows that remain, from index i on, decide as all did. Assumes nothing.
+use mathlib.Core.Path.{_≡_, refl, sym, _∙_}
+use Prim.Native.Nat.{_+_, _-_, _≤_}
+use native.Mathlib.Omega.{arith}
+use lib.ListN.{length, drop}
+use borrow.Author.Needs.{needs}
+use Rattle.rules.specs.Rules.{rises}
+use Rattle.rules.proofs.Judging.{rises-next, rises-fails, rises-done}
+use Rattle.rules.proofs.values.rows_rise.Statement.{statement}
+use Rattle.rules.proofs.values.rows_rise.Tie as tie
+
+abbrev Inv-loop : tie.InvT-loop
+Inv-loop body i₀ i = (i ≤ length body + 4) × (rises (drop i body) ≡ rises (drop 4 body))
+
+abbrev μ-loop : tie.MeasureT-loop
+μ-loop body i₀ i = length body - i
+
+loop-holds : tie.Need-loop-holds Inv-loop μ-loop
+loop-holds c = (omega arith, refl)
+
+add-loop : tie.Need-add-loop Inv-loop μ-loop
+add-loop c = omega arith
+
+add-warmth : tie.Need-add-warmth Inv-loop μ-loop
+add-warmth c = omega arith
+
+shared-slice-read-warmth : tie.Need-shared-slice-read-warmth Inv-loop μ-loop
+shared-slice-read-warmth c = omega arith
+
+warmth-requires : tie.Need-warmth-requires Inv-loop μ-loop
+warmth-requires c κs = search needs
+
+shared-slice-read-warmth-2 : tie.Need-shared-slice-read-warmth-2 Inv-loop μ-loop
+shared-slice-read-warmth-2 c = omega arith
+
+warmth-requires-2 : tie.Need-warmth-requires-2 Inv-loop μ-loop
+warmth-requires-2 c κs = search needs
+
+returns : tie.Need-returns Inv-loop μ-loop
+returns c =
+    let t = c .before .before .before in
+    let l = t .before .before .before .loop in
+    sym (rises-fails _ (l .i) (omega arith) (omega (arith, t .warmth .ensures, c .before .warmth2 .ensures))) ∙ l .inv .1
+
+add-i : tie.Need-add-i Inv-loop μ-loop
+add-i c = omega arith
+
+loop-less : tie.Need-loop-less Inv-loop μ-loop
+loop-less c = omega arith
+
+loop-again : tie.Need-loop-again Inv-loop μ-loop
+loop-again c =
+    let t = c .before .before .before in
+    let l = t .before .before .before .loop in
+    (omega arith, rises-next _ (l .i) (omega arith) (omega (arith, t .warmth .ensures, c .before .warmth2 .ensures)) ∙ l .inv .1)
+
+returns-2 : tie.Need-returns-2 Inv-loop μ-loop
+returns-2 c = sym (rises-done _ (c .before .loop .i) (omega arith)) ∙ c .before .loop .inv .1
+
+pub rows-rise-spec : {M : Type 1} → statement M
+rows-rise-spec =
+    tie.close
+    (tie.spec
+    Inv-loop
+    μ-loop
+    loop-holds
+    add-loop
+    add-warmth
+    shared-slice-read-warmth
+    warmth-requires
+    shared-slice-read-warmth-2
+    warmth-requires-2
+    returns
+    add-i
+    loop-less
+    loop-again
+    returns-2)

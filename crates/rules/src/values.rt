@@ -1,0 +1,99 @@
+// Which values a command takes.
+use crate::names::byte;
+use crate::rule::Values;
+ghost use mathlib.Core.Path.{_≡_};
+ghost use Prim.Native.Nat.{_+_, _≤_};
+ghost use lib.ListN.{length, drop};
+ghost use Rattle.laws.specs.Checks.{within};
+ghost use Rattle.rules.specs.Rules.{blank, warmth, rises, constantsOk, clockOk, modeOk, valuesOk};
+
+fn is_within(low: u8, high: u8, x: u8) -> bool
+    ensures { λ r. ⌜ r ≡ within low high x ⌝ }
+{
+    (low <= x) & (x <= high)
+}
+
+// Bytes from..to of a body are all 0.
+fn is_blank(body: &[u8], from: usize, to: usize) -> bool
+    requires { ⌜ (1 ≤ from) × (from ≤ to) × (to ≤ 132) ⌝ }
+    ensures { λ r. ⌜ r ≡ blank (now (body .entry)) from to ⌝ }
+{
+    let mut b = from;
+    while b <= to {
+        if byte(body, b) != 0 {
+            return false;
+        }
+        b += 1;
+    }
+    true
+}
+
+fn constants_ok(body: &[u8]) -> bool
+    ensures { λ r. ⌜ r ≡ constantsOk (now (body .entry)) ⌝ }
+{
+    is_blank(body, 17, 20)
+        & is_blank(body, 23, 26)
+        & is_blank(body, 29, 32)
+        & is_blank(body, 35, 38)
+        & is_blank(body, 43, 46)
+        & is_blank(body, 49, 68)
+        & is_blank(body, 71, 72)
+        & is_blank(body, 75, 78)
+        & is_within(1, 13, byte(body, 7))
+}
+
+fn clock_ok(body: &[u8]) -> bool
+    ensures { λ r. ⌜ r ≡ clockOk (now (body .entry)) ⌝ }
+{
+    is_within(0, 59, byte(body, 3))
+        & is_within(0, 59, byte(body, 4))
+        & is_within(0, 23, byte(body, 5))
+        & is_within(1, 7, byte(body, 6))
+        & is_within(1, 31, byte(body, 7))
+        & is_within(1, 12, byte(body, 8))
+        & is_within(0, 99, byte(body, 9))
+        & is_blank(body, 10, 11)
+}
+
+fn mode_ok(body: &[u8]) -> bool
+    ensures { λ r. ⌜ r ≡ modeOk (now (body .entry)) ⌝ }
+{
+    let mode = byte(body, 3);
+    (mode == 0) | (mode == 255)
+}
+
+// A temperature byte, moved so that plain order is the order of temperatures.
+fn warmth(b: u8) -> u8
+    ensures { λ r. ⌜ r ≡ warmth b ⌝ }
+{
+    if b < 128 { b + 128 } else { b - 128 }
+}
+
+// The temperatures rise from row to row; rows of three bytes start at byte 5.
+fn rows_rise(body: &[u8]) -> bool
+    requires { ⌜ length (now body) ≤ 132 ⌝ }
+    ensures { λ r. ⌜ r ≡ rises (drop 4 (now (body .entry))) ⌝ }
+{
+    let mut i = 4;
+    while i + 3 < body.len() {
+        if warmth(body[i + 3]) <= warmth(body[i]) {
+            return false;
+        }
+        i += 3;
+    }
+    true
+}
+
+// Check 11.
+pub(crate) fn values_ok(values: Values, body: &[u8]) -> bool
+    requires { ⌜ length (now body) ≤ 132 ⌝ }
+    ensures { λ r. ⌜ r ≡ valuesOk values (now (body .entry)) ⌝ }
+{
+    match values {
+        Values::Anything => true,
+        Values::Constants => constants_ok(body),
+        Values::Rows => rows_rise(body),
+        Values::Mode => mode_ok(body),
+        Values::Clock => clock_ok(body),
+    }
+}

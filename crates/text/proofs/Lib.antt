@@ -1,0 +1,3 @@
+pub mod Cuts
+pub mod Pieces
+pub mod Decimals
