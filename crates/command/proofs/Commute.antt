@@ -29,7 +29,8 @@ module _ (v : Version) (m : List ℕ) (u : Usable v m) (d : Cell) (bs : List ℕ
   after-store : (b : Act) (e : Cell) (c : List ℕ) → Fit b e c → ¬ List·Memᴰ d (reads b e) → says v b e (stored v d bs m) ≡ says v b e m
   after-store Show e c g off =
       let some = size-some e g in
-      let f : getD (stored v d bs m) (offset e) 0 ≡ getD m (offset e) 0 = stretch-stays v m u d bs fit e (cell-made e g) off (offset e) (omega arith, omega arith) in
+      let f : getD (stored v d bs m) (offset e) 0 ≡ getD m (offset e) 0 =
+      stretch-stays v m u d bs fit e (cell-made e g) off (offset e) (omega arith, omega arith) in
       rw f (slice-stays v m u d bs fit e (cell-made e g) off (extent e (getD m (offset e) 0)) (extent-fits v m u e g))
   after-store Sign e c g off = ap two (signature-stays v m u d bs fit e (item-made e g) off v)
   after-store (Store k) e c g off = refl
@@ -42,7 +43,8 @@ module _ (v : Version) (m : List ℕ) (u : Usable v m) where
   says-same Sign b d e c c′ f g n = refl
   says-same (Store k) b d e c c′ f g n = after-store v m u d (drop k c) f b e c′ g (n d (own-cell d (f .cell)) .0)
 
-  pub leaves-swap : (a b : Act) (d e : Cell) (c c′ : List ℕ) → Fit a d c → Fit b e c′ → Clear a d b e → leaves v b e c′ (leaves v a d c m) ≡ leaves v a d c (leaves v b e c′ m)
+  pub leaves-swap : (a b : Act) (d e : Cell) (c c′ : List ℕ) → Fit a d c → Fit b e c′ → Clear a d b e
+      → leaves v b e c′ (leaves v a d c m) ≡ leaves v a d c (leaves v b e c′ m)
   leaves-swap Show b d e c c′ f g n = refl
   leaves-swap Sign b d e c c′ f g n = refl
   leaves-swap (Store k) Show d e c c′ f g n = refl

@@ -14,8 +14,10 @@ use Rattle.laws.specs.Bytes.{two}
 use Rattle.laws.proofs.Bytes.{slice-is}
 use Rattle.image.specs.declared.cell.Cell.the-variants.{Errors}
 use Rattle.image.specs.declared.cell.Cell.{Cell}
+use Rattle.image.specs.Version.{current, imageLength}
 use Rattle.image.specs.Cell.{offset, size, extent, isCell, isItem}
 use Rattle.image.specs.Usable.{usable}
+use Rattle.image.specs.Signature.{signature}
 use Rattle.image.specs.Stored.{FitStore}
 use Rattle.image.proofs.Cells.{placed, extent-view, size-some}
 use Rattle.image.proofs.cell.Cell.{the-type}
@@ -25,8 +27,6 @@ use Rattle.rules.specs.declared.rule.Act.the-variants.{Show, Sign, Store}
 use Rattle.rules.specs.declared.rule.Act.{Act}
 use Rattle.rules.specs.Fits.{Fit, FitAccepted}
 use Rattle.command.specs.Act.{says}
-use Rattle.image.specs.Version.{current, imageLength}
-use Rattle.image.specs.Signature.{signature}
 
 -- ---- a match's last arm knows the tag alone; an error table has tag 4
 

@@ -14,6 +14,7 @@ use Rattle.output.specs.Output.{OutputAfter, Does, written}
 use Rattle.frame.specs.Built.{built, frameOf}
 use Rattle.frame.proofs.Answers.{built-done}
 use Rattle.image.specs.declared.cell.Cell.{Cell}
+use Rattle.image.specs.Version.{Version, current}
 use Rattle.image.specs.Cell.{offset, extent}
 use Rattle.image.specs.Usable.{usable, address}
 use Rattle.image.specs.Signature.{signature}
@@ -28,9 +29,7 @@ use Rattle.rules.specs.Fits.{Fit, longest, FitAccepted}
 use Rattle.rules.proofs.Fit.{recognised-fits}
 use Rattle.command.specs.Act.{says}
 use Rattle.command.specs.Reply.{replyOf, replied, sent, Serves}
-use Rattle.command.specs.Reply.{replied, sent, Serves}
 use Rattle.command.proofs.Doing.{opening}
-use Rattle.image.specs.Version.{Version, current}
 
 -- ---- the verdict's cases
 

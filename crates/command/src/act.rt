@@ -45,7 +45,7 @@ fn sign(cell: Cell, m: &[u8], reply: &mut [u8], end: Cursor) -> Cursor
 }
 
 // The reply without its checksum, at the start of `reply`: the request's first bytes, then what the act says.
-pub(crate) fn say(
+pub(crate) fn put_reply(
     echo: usize,
     act: Act,
     cell: Cell,
@@ -67,7 +67,7 @@ pub(crate) fn say(
 }
 
 // The image after the act.
-pub(crate) fn change(act: Act, cell: Cell, body: &[u8], m: &mut [u8])
+pub(crate) fn leave(act: Act, cell: Cell, body: &[u8], m: &mut [u8])
     requires { ⌜ Fit act cell (now body) × (length (now m) ≡ imageLength current) ⌝ }
     ensures { λ _. ⌜ now (m .exit) ≡ leaves current act cell (now (body .entry)) (now (m .entry)) ⌝ }
 {

@@ -1,5 +1,5 @@
-// Doing what a body was found to ask: the three acts, and the answer.
+// Doing what a body was found to ask: the three acts, and the reply.
 mod act;
 mod reply;
 
-pub use reply::answer;
+pub use reply::reply_to;

@@ -1,6 +1,6 @@
-// Answering a body: document 01's number, the reply frame in the output, and the image after it.
-use crate::act::change;
-use crate::act::say;
+// Replying to a body: document 01's number, the reply frame in the output, and the image after it.
+use crate::act::leave;
+use crate::act::put_reply;
 use image::Cell;
 use output::Answer;
 use rules::Act;
@@ -26,16 +26,17 @@ fn accept(
     mut reply: [u8; 132],
 ) -> Answer
     requires { ⌜ FitAccepted echo act cell (now body) × (usable current (now m) ≡ true) × (269 ≤ length (now out)) ⌝ }
-    ensures { λ r. ⌜ Serves (sent (done current (Accepted echo act cell) (now (body .entry)) (now (m .entry))) (now (out .entry))) r (now (m .exit)) (now (out .exit)) ⌝ }
+    ensures { λ r. ⌜ Serves (sent (done current (Accepted echo act cell) (now (body .entry)) (now (m .entry))) (now (out .entry)))
+        r (now (m .exit)) (now (out .exit)) ⌝ }
 {
-    let end = say(echo, act, cell, body, m, &mut reply);
+    let end = put_reply(echo, act, cell, body, m, &mut reply);
     let n = end.at;
-    change(act, cell, body, m);
+    leave(act, cell, body, m);
     frame::build(&reply[..n], out)
 }
 
 // A body without its checksum, on a usable image.
-pub fn answer(body: &[u8], m: &mut [u8], out: &mut [u8]) -> Answer
+pub fn reply_to(body: &[u8], m: &mut [u8], out: &mut [u8]) -> Answer
     requires { ⌜ (usable current (now m) ≡ true) × (length (now body) ≤ 132) × (269 ≤ length (now out)) ⌝ }
     ensures { λ r. ⌜ Serves (sent (replied current (now (body .entry)) (now (m .entry))) (now (out .entry))) r (now (m .exit)) (now (out .exit)) ⌝ }
 {

@@ -10,8 +10,8 @@ use borrow.Author.Tests.{eq-eqb, ne-eqb}
 use Rattle.laws.specs.Bytes.{slice}
 use Rattle.laws.proofs.Bytes.{slice-most}
 use Rattle.text.specs.Decimal.{decimal}
-use Rattle.desk_run.specs.Line.{shown, lineOf}
 use Rattle.text.proofs.Decimals.{decimal-most}
+use Rattle.desk_run.specs.Line.{shown, lineOf}
 
 module _ (n : ℕ) (reply : List ℕ) where
   pub shown-none : ¬ (n ≡ 0) → shown n reply ≡ []

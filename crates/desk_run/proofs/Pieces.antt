@@ -10,13 +10,13 @@ use Rattle.output.specs.declared.answer.Answer.{Answer}
 use Rattle.output.specs.Cursor.{Laid}
 use Rattle.image.specs.Version.{Version}
 use Rattle.command.specs.Reply.{Serves}
+use Rattle.izk.specs.Heard.{heard}
 use Rattle.izk.specs.Block.{served}
+use Rattle.izk.proofs.Hearing.{heard-lawful}
 use Rattle.izk.proofs.Serving.{Way, early, through, way, answered-length, number-short}
 use Rattle.desk_run.specs.Line.{lineOf}
 use Rattle.desk_run.specs.Desk.{printed}
 use Rattle.desk_run.proofs.Lines.{line-most}
-use Rattle.izk.specs.Heard.{heard}
-use Rattle.izk.proofs.Hearing.{heard-lawful}
 
 module _ (v : Version) (f m out : List ℕ) where
   served-short : served heard v f m out .len ≤ 269
@@ -44,7 +44,8 @@ printed-short v m p =
     line-short (a .number) (a .len) (a .out) (number-short heard v p m (zeros 269) heard-lawful) (served-long v p m (zeros 269) ∙ length-zeros 269)
 
 -- so a line that was laid where 300 bytes were left has not run over
-pub laid-fits : (v : Version) (m p : List ℕ) (at at′ : ℕ) (text text′ : List ℕ) → Laid at at′ text text′ (printed v m p) → at + 300 ≤ length text → at′ ≤ length text′
+pub laid-fits : (v : Version) (m p : List ℕ) (at at′ : ℕ) (text text′ : List ℕ) → Laid at at′ text text′ (printed v m p)
+    → at + 300 ≤ length text → at′ ≤ length text′
 laid-fits v m p at at′ text text′ l h = omega (arith, printed-short v m p, ap length (l .laid), length-lay text at (printed v m p))
 
 -- a call that kept the promise of serving

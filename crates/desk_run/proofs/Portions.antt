@@ -23,12 +23,17 @@ use Rattle.desk_run.proofs.Ran.{ran-grows, ran-onward}
 
 -- ---- what every turn keeps, the whole keeps
 
+-- K of where a call stopped
+abbrev at-stop : {A : Type 0} → (ℕ → ℕ → List ℕ → List ℕ → A) → Ran → A
+at-stop K r = K (r .from) (r .len) (r .image) (r .text)
+
 module _ (v : Version) (input : List ℕ) where
   -- K is the same before and after a turn
   Turns : {A : Type 0} → (ℕ → ℕ → List ℕ → List ℕ → A) → Type 0
   Turns K =
       (from at : ℕ) (m text : List ℕ) → from < length input → at + 300 ≤ length text
-      → K (pieceEnd from input) (at + length (printed v m (pieceAt from input))) (left v m (pieceAt from input)) (lay text at (printed v m (pieceAt from input))) ≡ K from at m text
+      → let p = pieceAt from input in
+      K (pieceEnd from input) (at + length (printed v m p)) (left v m p) (lay text at (printed v m p)) ≡ K from at m text
 
   -- the first of the pieces from an index on
   first-of : (from : ℕ) (p : List ℕ) (ps : List (List ℕ)) → p ∷ ps ≡ pieces (drop from input)
@@ -41,19 +46,19 @@ module _ (v : Version) (input : List ℕ) where
       go (no h) = let q : p ∷ ps ≡ [] = rw (none-left input from (omega arith)) at e in absurd (let z : _≡_ {A = ℕ} 0 1 = cc in omega arith)
 
   ran-keeps : {A : Type 0} (K : ℕ → ℕ → List ℕ → List ℕ → A) → Turns K → (ps : List (List ℕ)) (from at : ℕ) (m text : List ℕ) → ps ≡ pieces (drop from input)
-      → K (ran v from at m text ps .from) (ran v from at m text ps .len) (ran v from at m text ps .image) (ran v from at m text ps .text) ≡ K from at m text
+      → at-stop K (ran v from at m text ps) ≡ K from at m text
   unfolding ran Turns
   ran-keeps K keeps [] from at m text e = refl
-  ran-keeps {A} K keeps (p ∷ ps) from at m text e = go _ (leb (at + 300) (length text)) refl (first-of from p ps e) (λ f. ran-keeps K keeps ps (from + length p) (at + length (printed v m p)) (left v m p) (lay text at (printed v m p)) f)
+  ran-keeps {A} K keeps (p ∷ ps) from at m text e =
+      let f = first-of from p ps e in
+      let to : from + length p ≡ pieceEnd from input = rw (f .1) (piece-reaches input from (f .0)) in
+      let later = ran-keeps K keeps ps (from + length p) (at + length (printed v m p)) (left v m p) (lay text at (printed v m p)) (rw to (f .2)) in
+      go _ (leb (at + 300) (length text)) refl (λ h. later ∙ rw (to, f .1) (keeps from at m text (f .0) h))
     where
-      go : (r : Ran) (t : Bool) → leb (at + 300) (length text) ≡ t
-          → (from < length input) × (p ≡ pieceAt from input) × (ps ≡ pieces (drop (pieceEnd from input) input))
-          → (ps ≡ pieces (drop (from + length p) input) → K (r .from) (r .len) (r .image) (r .text) ≡ K (from + length p) (at + length (printed v m p)) (left v m p) (lay text at (printed v m p)))
-          → K (cond t r (stopped from at m text) .from) (cond t r (stopped from at m text) .len) (cond t r (stopped from at m text) .image) (cond t r (stopped from at m text) .text) ≡ K from at m text
-      go r false h f ih = refl
-      go r true h f ih =
-          let to : from + length p ≡ pieceEnd from input = rw (f .1) (piece-reaches input from (f .0)) in
-          ih (rw to (f .2)) ∙ rw (to, f .1) (keeps from at m text (f .0) (leb-true _ _ h))
+      go : (r : Ran) (t : Bool) → leb (at + 300) (length text) ≡ t → (at + 300 ≤ length text → at-stop K r ≡ K from at m text)
+          → at-stop K (cond t r (stopped from at m text)) ≡ K from at m text
+      go r false h turn = refl
+      go r true h turn = turn (leb-true _ _ h)
 
 -- ---- what a call leaves
 
@@ -75,7 +80,8 @@ module _ (v : Version) (input : List ℕ) where
   unfolding Turns transcript
   ran-remains from at m text =
       ran-keeps v input (λ f k n t. take k t ++ transcript v n (pieces (drop f input)))
-      (λ f k n t h g. rw (take-laid k t (printed v n (pieceAt f input)) (omega (arith, printed-short v n (pieceAt f input))), pieces-from input f h, append-assoc)) _ from at m text refl
+      (λ f k n t h g. let p = pieceAt f input in rw (take-laid k t (printed v n p) (omega (arith, printed-short v n p)), pieces-from input f h, append-assoc))
+      _ from at m text refl
 
 -- ---- calling it again
 

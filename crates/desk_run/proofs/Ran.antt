@@ -29,8 +29,8 @@ module _ (v : Version) (from at : ℕ) (m text : List ℕ) where
 
     pub ran-turn : from < length input → at + 300 ≤ length text
         → ran v from at m text (pieces (drop from input))
-        ≡ ran v (pieceEnd from input) (at + length (printed v m (pieceAt from input))) (left v m (pieceAt from input)) (lay text at (printed v m (pieceAt from input)))
-        (pieces (drop (pieceEnd from input) input))
+        ≡ ran v (pieceEnd from input) (at + length (printed v m (pieceAt from input))) (left v m (pieceAt from input))
+        (lay text at (printed v m (pieceAt from input))) (pieces (drop (pieceEnd from input) input))
     unfolding ran
     ran-turn h g = rw (pieces-from input from h, le-leb _ _ g, piece-reaches input from h)
 

@@ -10,10 +10,10 @@ use Rattle.laws.specs.Bytes.{lay, zeros, codes}
 use Rattle.text.specs.Cut.{pieces}
 use Rattle.image.specs.Version.{Version, current}
 use Rattle.image.specs.Fresh.{fresh}
+use Rattle.izk.specs.Heard.{heard}
 use Rattle.izk.specs.Block.{served}
 use Rattle.desk_run.specs.declared.turns.Progress.{Progress}
 use Rattle.desk_run.specs.Line.{lineOf}
-use Rattle.izk.specs.Heard.{heard}
 
 -- ---- the whole text
 
@@ -33,7 +33,7 @@ transcript v m (p ∷ ps) = printed v m p ++ transcript v (left v m p) ps
 unfoldable pub line : String → List ℕ
 line s = codes s ++ (10 ∷ [])
 
--- the text for an input: offset most 65,536 bytes are served, on an image that is fresh at address 1
+-- the text for an input: at most 65,536 bytes are served, on an image that is fresh at address 1
 unfoldable pub deskText : List ℕ → List ℕ
 deskText input = cond (ltb 65536 (length input)) (line "too long") (transcript current (fresh current 1) (pieces input))
 

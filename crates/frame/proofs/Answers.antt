@@ -78,7 +78,8 @@ module _ {A : Type 0} (no : ℕ → A) (after : A) (f : List ℕ) where
   digits-fail l e d = rw (l, e, d)
 
   -- past them the sum decides
-  pub sum-decides : (t : Bool) → lengthOk (length f) ≡ true → endsOk f ≡ true → allDigits (inner f) ≡ true → sumOk f ≡ t → judged no (frameChecks f) after ≡ cond t after (no 6)
+  pub sum-decides : (t : Bool) → lengthOk (length f) ≡ true → endsOk f ≡ true → allDigits (inner f) ≡ true → sumOk f ≡ t
+      → judged no (frameChecks f) after ≡ cond t after (no 6)
   unfolding frameChecks judged
   sum-decides t l e d s = rw (l, e, d, s)
 

@@ -1,4 +1,4 @@
--- Laws of what a cursor lays: zeros, characters and a whole frame. Assumes nothing.
+-- Laws of what a cursor lays: characters, and a whole frame. Assumes nothing.
 use mathlib.Core.Path.{_≡_, refl}
 use mathlib.Core.List.{List, [], _∷_, _++_, append-assoc}
 use Prim.Native.Nat.{ℕ, _+_, _*_, _≤_, _<_}
@@ -45,7 +45,7 @@ module _ (c o o₁ o₂ o₃ o₄ o₅ : List ℕ) (k₁ k₂ k₃ k₄ k₅ s :
   unfolding frameOf
   parts = rw (sum, chars-append) (append-assoc (58 ∷ (charsOf c ++ charsOf (checksumOf c ∷ []))) (13 ∷ []) (10 ∷ []))
 
-  pub frame-laid : Laid 0 k₁ o o₁ (58 ∷ []) → Laid k₁ k₂ o₁ o₂ (charsOf c) → Laid k₂ k₃ o₂ o₃ (charsOf (s ∷ [])) → Laid k₃ k₄ o₃ o₄ (13 ∷ []) → Laid k₄ k₅ o₄ o₅ (10 ∷ [])
-      → Laid 0 k₅ o o₅ (frameOf c)
+  pub frame-laid : Laid 0 k₁ o o₁ (58 ∷ []) → Laid k₁ k₂ o₁ o₂ (charsOf c) → Laid k₂ k₃ o₂ o₃ (charsOf (s ∷ []))
+      → Laid k₃ k₄ o₃ o₄ (13 ∷ []) → Laid k₄ k₅ o₄ o₅ (10 ∷ []) → Laid 0 k₅ o o₅ (frameOf c)
   frame-laid first body check cr lf =
       rw (← parts) (laid-then _ _ _ _ _ _ _ _ (laid-then _ _ _ _ _ _ _ _ (laid-then _ _ _ _ _ _ _ _ (laid-then _ _ _ _ _ _ _ _ first body) check) cr) lf)

@@ -5,8 +5,8 @@ ghost use lib.ListN.{length};
 ghost use Rattle.output.specs.Output.{Does};
 ghost use Rattle.frame.specs.Apart.{apart, endsOk};
 use crate::digits::all_digits;
+use crate::digits::bytes_of;
 use crate::digits::checksum;
-use crate::digits::decode;
 use output::Answer;
 use output::Cursor;
 
@@ -47,7 +47,7 @@ pub fn take_apart(frame: &[u8], out: &mut [u8]) -> Answer
     if !all_digits(chars) {
         return Answer { number: 5, len: 0 };
     }
-    let work = decode(chars, [0u8; 133]);
+    let work = bytes_of(chars, [0u8; 133]);
     let k = (n - 3) / 2 - 1;
     let sum = checksum(&work[..k]);
     if work[k] != sum {

@@ -50,7 +50,7 @@ pub(crate) fn char_of(h: u8) -> u8
 }
 
 // The bytes that the characters stand for, over the first bytes of `work`. It is handed in, so that its list stays a name in the proof.
-pub(crate) fn decode(s: &[u8], mut work: [u8; 133]) -> [u8; 133]
+pub(crate) fn bytes_of(s: &[u8], mut work: [u8; 133]) -> [u8; 133]
     requires { ⌜ (length (now s) ≤ 266) × (allDigits (now s) ≡ true) ⌝ }
     ensures { λ r. ⌜ r ≡ lay work 0 (bytesOf (now (s .entry))) ⌝ }
 {

@@ -40,7 +40,8 @@ unfolding rising
 first-ends c [] h m = absurd (List·Memᴰ·not-nil m)
 first-ends c {d} (x ∷ l) h m = go (and-both (leb (offset c + size c) (offset x)) (rising (x ∷ l)) h) (λ g k. first-ends x l g k) (List·Memᴰ·cases-cons m)
   where
-    go : (leb (offset c + size c) (offset x) ≡ true) × (rising (x ∷ l) ≡ true) → (rising (x ∷ l) ≡ true → List·Memᴰ d l → offset x + size x ≤ offset d) → (d ≡ x) ⊎ List·Memᴰ d l → offset c + size c ≤ offset d
+    go : (leb (offset c + size c) (offset x) ≡ true) × (rising (x ∷ l) ≡ true) → (rising (x ∷ l) ≡ true → List·Memᴰ d l → offset x + size x ≤ offset d)
+        → (d ≡ x) ⊎ List·Memᴰ d l → offset c + size c ≤ offset d
     go p ih (inl e) = rw e (leb-true _ _ (p .0))
     go p ih (inr k) = let a = leb-true (offset c + size c) (offset x) (p .0) in let b = ih (p .1) k in omega arith
 
@@ -49,7 +50,8 @@ unfolding rising
 rest-rises x [] h = refl
 rest-rises x (y ∷ l) h = and-both (leb (offset x + size x) (offset y)) (rising (y ∷ l)) h .1
 
-pub shared : {c d : Cell} (l : List Cell) → rising l ≡ true → List·Memᴰ c l → List·Memᴰ d l → (i : ℕ) → In (offset c) (size c) i → In (offset d) (size d) i → c ≡ d
+pub shared : {c d : Cell} (l : List Cell) → rising l ≡ true → List·Memᴰ c l → List·Memᴰ d l
+    → (i : ℕ) → In (offset c) (size c) i → In (offset d) (size d) i → c ≡ d
 shared [] h m n i p q = absurd (List·Memᴰ·not-nil m)
 shared {c} {d} (x ∷ l) h m n i p q = go (List·Memᴰ·cases-cons m) (List·Memᴰ·cases-cons n) (λ a b. shared l (rest-rises x l h) a b i p q)
   where
@@ -76,7 +78,9 @@ parts-mem k p i zero h a b = absurd (omega arith)
 parts-mem k p i (suc n) h a b = go (ℕ-discrete k i) (λ l. parts-mem k p (suc i) n h l (omega arith))
   where
     go : Dec (k ≡ i) → (suc i ≤ k → List·Memᴰ (Part k p) (partsFrom (suc i) n)) → List·Memᴰ (Part k p) (run (Part i) 0 11 ++ partsFrom (suc i) n)
-    go (yes e) ih = Memᴰ·append-left (partsFrom (suc i) n) (subst (λ (j : ℕ). List·Memᴰ (Part k p) (run (Part j) 0 11)) e (run-mem (Part k) p 0 11 (omega arith) (omega arith)))
+    go (yes e) ih =
+        let here = run-mem (Part k) p 0 11 (omega arith) (omega arith) in
+        Memᴰ·append-left (partsFrom (suc i) n) (subst (λ (j : ℕ). List·Memᴰ (Part k p) (run (Part j) 0 11)) e here)
     go (no e) ih = Memᴰ·append-right (run (Part i) 0 11) (ih (omega arith))
 
 pub listed : (c : Cell) → isCell c ≡ true → List·Memᴰ c cells
@@ -89,7 +93,8 @@ listed (Constants c) h =
     List·Memᴰ·tail (List·Memᴰ·tail (List·Memᴰ·tail (Memᴰ·append-left (run Errors 0 8 ++ partsFrom 0 16) (run-mem Constants c 0 8 (omega arith) (omega arith)))))
 listed (Errors e) h =
     let l = ltb-true e 8 h in
-    List·Memᴰ·tail (List·Memᴰ·tail (List·Memᴰ·tail (Memᴰ·append-right (run Constants 0 8) (Memᴰ·append-left (partsFrom 0 16) (run-mem Errors e 0 8 (omega arith) (omega arith))))))
+    List·Memᴰ·tail (List·Memᴰ·tail (List·Memᴰ·tail (Memᴰ·append-right (run Constants 0 8)
+    (Memᴰ·append-left (partsFrom 0 16) (run-mem Errors e 0 8 (omega arith) (omega arith))))))
 listed (Part k p) h =
     let b = and-both (ltb k 16) (ltb p 11) h in
     let l = ltb-true k 16 (b .0) in

@@ -20,7 +20,7 @@ use Rattle.image.specs.Stored.{touchedAll, touches, stored, FitStore}
 use Rattle.image.proofs.Cells.{one-cell, placed, covered, extent-view}
 use Rattle.image.proofs.UsableFacts.{Usable}
 use Rattle.image.proofs.Stretches.{cell-made, only-cell}
-use Rattle.image.proofs.Touches.{Own, touched-lay, touched-swap, touches-agree, touches-low, touches-room}
+use Rattle.image.proofs.Touches.{Own, touched-lay, touched-swap, touches-agree, no-touch-in-cell, touches-room}
 use Rattle.image.proofs.Stores.{stored-length, outside}
 
 -- what counts of a cell lies inside it
@@ -57,7 +57,7 @@ laid-in {d} {bs} f a = (a .0, rw (length-padded (size d) bs (f .room)) at (a .1)
 module _ (v : Version) (m : List ℕ) (u : Usable v m) where
   -- and lie off every word
   laid-off : (c d : Cell) (bs cs : List ℕ) → FitStore c bs → FitStore d cs → (i : ℕ) → In (offset c) (length (padded (size c) bs)) i → ¬ Own (touches v d) i
-  laid-off c d bs cs f g i a w = placed v c (f .cell) .words i (laid-in f a) (touches-low v d i (g .cell) w)
+  laid-off c d bs cs f g i a = no-touch-in-cell v c d (f .cell) (g .cell) i (laid-in f a)
 
   -- a cell finds its old bytes whether or not another was stored before
   old-stays : (c d : Cell) (bs cs : List ℕ) → FitStore c bs → FitStore d cs → c ≢ d → slice (offset d) (size d) (stored v c bs m) ≡ slice (offset d) (size d) m
@@ -74,8 +74,10 @@ module _ (v : Version) (m : List ℕ) (u : Usable v m) where
       let T = touches v d in
       let both = lay (lay m (offset c) X) (offset d) Y in
       let long = length-lay (lay m (offset c) X) (offset d) Y ∙ length-lay m (offset c) X ∙ u .long-is in
+      let before = touched-lay A X S (lay m (offset c) X) (offset d) Y (laid-off d c cs bs g f) in
+      let behind = touched-lay B Y T (lay m (offset d) Y) (offset c) X (laid-off c d bs cs f g) in
       let off : Disjoint (offset c) (length X) (offset d) (length Y) = (λ i x y. n (one-cell c d (f .cell) (g .cell) i (laid-in f x) (laid-in g y))) in
-      ap₂ (λ (l k : List ℕ). touchedAll l Y T k) (old-stays c d bs cs f g n) (touched-lay A X S (lay m (offset c) X) (offset d) Y (laid-off d c cs bs g f))
+      ap₂ (λ (l k : List ℕ). touchedAll l Y T k) (old-stays c d bs cs f g n) before
       ∙ touched-swap B Y A X T S both (touches-agree v d c) (touches-room v d both (g .cell) long)
       ∙ ap (λ (l : List ℕ). touchedAll A X S (touchedAll B Y T l)) (lay-swap m (offset c) X (offset d) Y off)
-      ∙ ap₂ (λ (l k : List ℕ). touchedAll l X S k) (sym (old-stays d c cs bs g f (λ e. n (sym e)))) (sym (touched-lay B Y T (lay m (offset d) Y) (offset c) X (laid-off c d bs cs f g)))
+      ∙ ap₂ (λ (l k : List ℕ). touchedAll l X S k) (sym (old-stays d c cs bs g f (λ e. n (sym e)))) (sym behind)

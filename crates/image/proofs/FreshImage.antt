@@ -3,7 +3,7 @@ use mathlib.Core.Path.{_≡_, refl, sym, ap, _∙_}
 use mathlib.Core.Logic.{_≢_}
 use mathlib.Core.List.{List, [], _∷_, _++_, append-nil}
 use mathlib.Core.Bool.{true}
-use Prim.Native.Nat.{ℕ, _+_, _*_, _≤_, _<_}
+use Prim.Native.Nat.{ℕ, _+_, _≤_, _<_}
 use native.Mathlib.Omega.{arith}
 use lib.ListN.{length, getD, drop, set, drop-of-length-le}
 use borrow.Author.Tests.{eq-eqb, ne-eqb}
@@ -12,9 +12,10 @@ use Rattle.laws.specs.Bytes.{zeros, wordAt}
 use Rattle.laws.specs.Checks.{judged}
 use Rattle.laws.specs.Bits.{onesIn}
 use Rattle.laws.proofs.Bytes.{length-zeros, length-lay, lay-at, lay-out, lay-is, zeros-at}
+use Rattle.image.specs.declared.cell.Cell.the-variants.{Errors}
 use Rattle.image.specs.Version.{Version, v1, current, versionNumber, imageLength}
-use Rattle.image.specs.Cell.{isTable, tableIndex}
-use Rattle.image.specs.Words.{tableWord}
+use Rattle.image.specs.Cell.{isTable, tableIndex, offset}
+use Rattle.image.specs.Words.{tableWord, wordOffset}
 use Rattle.image.specs.Usable.{usable, markOk, addressOk}
 use Rattle.image.specs.Fresh.{fresh}
 use Rattle.image.specs.Held.{missingFrom, lowestMissing, heldOf, heldParts}
@@ -36,7 +37,8 @@ clear-done m m₀ i h g e =
     e ∙ rw (drop-of-length-le m₀ g, append-nil) (ap zeros n)
 
 -- and marked from the front
-pub fresh-is : (z m : List ℕ) (a : ℕ) → length m ≡ imageLength current → z ≡ zeros (length m) → set (set (set (set (set (set z 0 73) 1 90) 2 75) 3 0) 4 (versionNumber current)) 5 a ≡ fresh current a
+pub fresh-is : (z m : List ℕ) (a : ℕ) → length m ≡ imageLength current → z ≡ zeros (length m)
+    → set (set (set (set (set (set z 0 73) 1 90) 2 75) 3 0) 4 (versionNumber current)) 5 a ≡ fresh current a
 unfolding fresh
 fresh-is z m a h e = rw (e, h) (sym (lay-is _ _ _))
 
@@ -63,7 +65,7 @@ module _ (v : Version) (a : ℕ) where
 
   word-none : (k : ℕ) → tableWord (fresh v a) k ≡ 0
   unfolding tableWord wordAt
-  word-none k = rw (rest-at (17 + 2 * k) (omega arith), rest-at (17 + 2 * k + 1) (omega arith))
+  word-none k = rw (rest-at (wordOffset k) (omega arith), rest-at (wordOffset k + 1) (omega arith))
 
   module _ (some : a ≢ 0) where
     mark-fresh : markOk v (fresh v a) ≡ true
@@ -82,7 +84,7 @@ module _ (v : Version) (a : ℕ) where
           long-is = length-fresh;
           mark = mark-fresh;
           address-is = address-fresh;
-          counts = λ e l. omega (arith, rest-at (713 + 64 * e) (omega arith));
+          counts = λ e l. omega (arith, rest-at (offset (Errors e)) (omega arith));
           words = λ k l. omega (arith, word-none k);
         })
 

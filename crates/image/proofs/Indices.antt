@@ -3,12 +3,11 @@ use mathlib.Core.Path.{_≡_, refl}
 use mathlib.Core.Logic.{_⊎_, inl, inr}
 use mathlib.Core.List.{[], _∷_, map}
 use mathlib.Core.Bool.{Bool, true, false, cond}
-use Prim.Native.Nat.{ℕ, _+_, _-_, _*_, _≤_, _<_}
+use Prim.Native.Nat.{ℕ, _-_, _≤_, _<_}
 use native.Mathlib.Omega.{arith}
 use borrow.Author.Tests.{lt-ltb, le-ltb}
 use Rattle.laws.specs.Checks.{within}
 use Rattle.laws.proofs.Tests.{or-either, within-is, within-in, within-above}
-use Rattle.image.specs.declared.cell.Cell.the-variants.{Part}
 use Rattle.image.specs.Cell.{isTable, tableIndex}
 
 pub table-indices : map tableIndex (1 ∷ 2 ∷ 3 ∷ 4 ∷ 5 ∷ 6 ∷ 7 ∷ 8 ∷ 11 ∷ 12 ∷ 13 ∷ 14 ∷ 15 ∷ 16 ∷ 17 ∷ 18 ∷ [])
@@ -49,7 +48,7 @@ index-below t h = go (table-cases t h)
     go (inl p) = omega arith
     go (inr p) = omega arith
 
--- no two tables share a place
+-- no two tables share an index
 pub one-index : (t u : ℕ) → isTable t ≡ true → isTable u ≡ true → tableIndex t ≡ tableIndex u → t ≡ u
 one-index t u h g e = go (table-cases t h) (table-cases u g)
   where
@@ -59,7 +58,7 @@ one-index t u h g e = go (table-cases t h) (table-cases u g)
     go (inr p) (inl q) = omega arith
     go (inr p) (inr q) = omega arith
 
--- ---- 16 stands for no place
+-- ---- 16 is no index
 
 module _ (t k : ℕ) (e : k ≡ cond (isTable t) (tableIndex t) 16) where
   pub index-is : k < 16 → (isTable t ≡ true) × (k ≡ tableIndex t)
@@ -75,7 +74,3 @@ module _ (t k : ℕ) (e : k ≡ cond (isTable t) (tableIndex t) 16) where
       go : (b : Bool) → isTable t ≡ b → isTable t ≡ false
       go true f = let z : k ≡ tableIndex t = rw f at e in let p = index-below t f in absurd (omega arith)
       go false f = f
-
--- no two parts share a bit of a word: the offset of the word and the bit's number name one part
-pub one-bit : (k p j q : ℕ) → 17 + 2 * k ≡ 17 + 2 * j → p ≡ q → Part k p ≡ Part j q
-one-bit k p j q e f = let g : k ≡ j = omega arith in rw (g, f)

@@ -22,7 +22,7 @@ use Rattle.image.specs.Words.{words, wordOffset, tableWord}
 use Rattle.image.specs.Stored.{touchedAll, touches, stored, FitStore}
 use Rattle.image.proofs.Cells.{one-cell, placed, InSpans, word-inside, table-words, extent-view, size-some}
 use Rattle.image.proofs.UsableFacts.{Usable, mark-same, address-same}
-use Rattle.image.proofs.Touches.{Own, touched-length, touched-byte, touches-low, WordAfter, own-word, word-after}
+use Rattle.image.proofs.Touches.{Own, touched-length, touched-byte, touches-low, no-touch-in-cell, WordAfter, own-word, word-after}
 
 -- ---- what it changes
 
@@ -56,7 +56,8 @@ module _ (v : Version) (d : Cell) (bs : List ℕ) (fit : FitStore d bs) (m : Lis
 
   word-laid : (j : ℕ) → j < 16 → tableWord laid j ≡ tableWord m j
   unfolding tableWord
-  word-laid j l = word-out m (offset d) new (wordOffset j) (clear (wordOffset j) (omega arith, omega arith)) (clear (wordOffset j + 1) (omega arith, omega arith))
+  word-laid j l =
+      word-out m (offset d) new (wordOffset j) (clear (wordOffset j) (omega arith, omega arith)) (clear (wordOffset j + 1) (omega arith, omega arith))
     where
       clear : (i : ℕ) → In (wordOffset j) 2 i → ¬ In (offset d) (length new) i
       clear i w a = placed v d (fit .cell) .words i (a .0, rw full at (a .1)) (table-words v j l i w)
@@ -78,13 +79,14 @@ module _ (v : Version) (d : Cell) (bs : List ℕ) (fit : FitStore d bs) (m : Lis
   own-bit k p e =
       let l = ltb-true k 16 (and-both (ltb k 16) (ltb p 11) (rw e at (fit .cell)) .0) in
       let old = slice (offset d) (size d) m in
-      ap (λ (c : Cell). bit (tableWord (touchedAll old new (touches v c) laid) k) p) e ∙ rw (own-word old new laid v k p l laid-length) (bit-set (tableWord laid k) p)
+      ap (λ (c : Cell). bit (tableWord (touchedAll old new (touches v c) laid) k) p) e
+      ∙ rw (own-word old new laid v k p l laid-length) (bit-set (tableWord laid k) p)
 
   -- ---- what it stored
 
   cell-byte : (i : ℕ) → In (offset d) (size d) i → getD (stored v d bs m) i 0 ≡ getD laid i 0
   unfolding stored
-  cell-byte i a = touched-byte (slice (offset d) (size d) m) new (touches v d) laid i (λ w. placed v d (fit .cell) .words i a (touches-low v d i (fit .cell) w))
+  cell-byte i a = touched-byte (slice (offset d) (size d) m) new (touches v d) laid i (no-touch-in-cell v d d (fit .cell) (fit .cell) i a)
 
   some : 0 < length bs
   some = rw (fit .counts) (go (extent-view d))
@@ -128,24 +130,26 @@ module _ (v : Version) (d : Cell) (bs : List ℕ) (fit : FitStore d bs) (m : Lis
     head-stays i l = let p = placed v d (fit .cell) .low in outside i (λ a. absurd (omega arith)) (λ a. let w = word-inside v i a in absurd (omega arith))
 
     -- the row count of the stored error table, or of one that stayed
-    count-stays : (e : ℕ) → e < 8 → getD (stored v d bs m) (713 + 64 * e) 0 ≤ 21
-    count-stays e l = go (Dec·and (decLe (offset d) (713 + 64 * e)) (decLt (713 + 64 * e) (offset d + size d)))
+    count-stays : (e : ℕ) → e < 8 → getD (stored v d bs m) (offset (Errors e)) 0 ≤ 21
+    count-stays e l = go (Dec·and (decLe (offset d) (offset (Errors e))) (decLt (offset (Errors e)) (offset d + size d)))
       where
-        go : Dec (In (offset d) (size d) (713 + 64 * e)) → getD (stored v d bs m) (713 + 64 * e) 0 ≤ 21
+        go : Dec (In (offset d) (size d) (offset (Errors e))) → getD (stored v d bs m) (offset (Errors e)) 0 ≤ 21
         go (yes a) =
-            let same : d ≡ Errors e = one-cell d (Errors e) (fit .cell) (lt-ltb e 8 l) (713 + 64 * e) a (omega arith, omega arith) in
-            let here : offset d ≡ 713 + 64 * e = ap offset same in
+            let same : d ≡ Errors e = one-cell d (Errors e) (fit .cell) (lt-ltb e 8 l) (offset (Errors e)) a (omega arith, omega arith) in
+            let here : offset d ≡ offset (Errors e) = ap offset same in
             let rows : extent d (getD bs 0 0) ≡ 1 + 3 * getD bs 0 0 = ap (λ (c : Cell). extent c (getD bs 0 0)) same in
             let big : size d ≡ 64 = ap size same in
             rw (← here, first-byte) (omega (arith, fit .counts, fit .room))
-        go (no a) = rw (outside (713 + 64 * e) a (placed v (Errors e) (lt-ltb e 8 l) .words (713 + 64 * e) (omega arith, omega arith))) (u .counts e l)
+        go (no a) = rw (outside (offset (Errors e)) a (placed v (Errors e) (lt-ltb e 8 l) .words (offset (Errors e)) (omega arith, omega arith))) (u .counts e l)
 
     word-stays : (k : ℕ) → k < 16 → tableWord (stored v d bs m) k ≤ 2047
     word-stays k l = go (word-stored k l)
       where
         go : WordAfter d k (tableWord m k) (tableWord (stored v d bs m) k) → tableWord (stored v d bs m) k ≤ 2047
         go (inl e) = rw e (u .words k l)
-        go (inr (p, same, b, e)) = rw e (let z : withBit (tableWord m k) p < 2 ^ 11 = with-bit-small 11 (tableWord m k) p (omega (arith, u .words k l)) b in omega arith)
+        go (inr (p, same, b, e)) =
+            let z : withBit (tableWord m k) p < 2 ^ 11 = with-bit-small 11 (tableWord m k) p (omega (arith, u .words k l)) b in
+            rw e (omega arith)
 
     pub store-usable : Usable v (stored v d bs m)
     store-usable =

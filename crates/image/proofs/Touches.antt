@@ -17,10 +17,10 @@ use Rattle.laws.proofs.Bits.{with-bit-swap}
 use Rattle.image.specs.declared.cell.Cell.the-variants.{Mask, Mode, Clock, Constants, Errors, Part, Table}
 use Rattle.image.specs.declared.cell.Cell.{Cell}
 use Rattle.image.specs.Version.{Version, v1, imageLength}
-use Rattle.image.specs.Cell.{isCell}
+use Rattle.image.specs.Cell.{isCell, offset, size}
 use Rattle.image.specs.Words.{words, wordOffset, tableWord}
 use Rattle.image.specs.Stored.{Touch, touched, touchedAll, bitOf, bits, touches}
-use Rattle.image.proofs.Cells.{InSpans, word-inside, table-words, table-word-inside}
+use Rattle.image.proofs.Cells.{InSpans, word-inside, table-words, table-word-inside, placed}
 
 -- ---- one touch
 
@@ -62,9 +62,8 @@ twice o n o′ n′ g h w m r =
 one-swap : (o n o′ n′ : List ℕ) (s t : Touch) (m : List ℕ) → Agree s t → s .word + 2 ≤ length m
     → touched o n s (touched o′ n′ t m) ≡ touched o′ n′ t (touched o n s m)
 one-swap o n o′ n′ s t m (inl a) r =
-    subst
-    (λ (x : ℕ). touched o n s (touched o′ n′ (record { word = x; change = t .change }) m) ≡ touched o′ n′ (record { word = x; change = t .change }) (touched o n s m))
-    (a .0)
+    let there : ℕ → Touch = (λ x. record { word = x; change = t .change }) in
+    subst (λ (x : ℕ). touched o n s (touched o′ n′ (there x) m) ≡ touched o′ n′ (there x) (touched o n s m)) (a .0)
     (twice o n o′ n′ (s .change) (t .change) (s .word) m r
     ∙ ap (λ (w : ℕ). lay m (s .word) (two w)) (a .1 o n o′ n′ (wordAt m (s .word)))
     ∙ sym (twice o′ n′ o n (t .change) (s .change) (s .word) m r))
@@ -176,9 +175,13 @@ bits-low d i = go (bit-view d)
 pub touches-agree : (v : Version) (c d : Cell) → AgreeAll (touches v c) (touches v d)
 touches-agree v1 = bits-agree
 
--- no touch lies in a cell: each is of a word, and words lie off the cells
+-- each is of a word
 pub touches-low : (v : Version) (d : Cell) (i : ℕ) → isCell d ≡ true → Own (touches v d) i → InSpans (words v) i
 touches-low v1 d i h w = let (k, l, a) = bits-low d i h w in table-words v1 k l i a
+
+-- no touch lies in a cell
+pub no-touch-in-cell : (v : Version) (c d : Cell) → isCell c ≡ true → isCell d ≡ true → (i : ℕ) → In (offset c) (size c) i → ¬ Own (touches v d) i
+no-touch-in-cell v c d h g i a w = placed v c h .words i a (touches-low v d i g w)
 
 pub touches-room : (v : Version) (d : Cell) (m : List ℕ) → isCell d ≡ true → length m ≡ imageLength v → Room (touches v d) m
 touches-room v d m h l = room-of (touches v d) m (λ i w. let p = word-inside v i (touches-low v d i h w) in omega arith)

@@ -2,12 +2,14 @@
 use mathlib.Core.Path.{_≡_}
 use mathlib.Core.List.{List}
 use mathlib.Core.Bool.{true}
-use Prim.Native.Nat.{ℕ, _+_, _*_, _≤_, _<_}
+use Prim.Native.Nat.{ℕ, _≤_, _<_}
 use native.Mathlib.Omega.{arith}
 use lib.ListN.{length, getD}
 use borrow.Author.Tests.{leb-true, le-leb, eqb-true, eq-eqb}
 use Rattle.laws.proofs.Tests.{and-both, every-at, every-of}
+use Rattle.image.specs.declared.cell.Cell.the-variants.{Errors}
 use Rattle.image.specs.Version.{Version, imageLength}
+use Rattle.image.specs.Cell.{offset}
 use Rattle.image.specs.Words.{tableWord}
 use Rattle.image.specs.Usable.{countOk, wordOk, usable, markOk, addressOk, address}
 
@@ -15,7 +17,7 @@ pub record Usable (v : Version) (m : List ℕ) : Type 0 where
   pub long-is : length m ≡ imageLength v
   pub mark : markOk v m ≡ true
   pub address-is : addressOk m ≡ true
-  pub counts : (e : ℕ) → e < 8 → getD m (713 + 64 * e) 0 ≤ 21
+  pub counts : (e : ℕ) → e < 8 → getD m (offset (Errors e)) 0 ≤ 21
   pub words : (k : ℕ) → k < 16 → tableWord m k ≤ 2047
 
 pub facts : (v : Version) (m : List ℕ) → usable v m ≡ true → Usable v m

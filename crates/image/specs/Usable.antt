@@ -1,11 +1,13 @@
 -- When an image is usable (document 01, "The image"). Assumes nothing.
 use mathlib.Core.List.{List}
 use mathlib.Core.Bool.{Bool, _&&_, not}
-use Prim.Native.Nat.{ℕ, _+_, _*_}
+use Prim.Native.Nat.{ℕ}
 use lib.ListN.{length, getD}
 use lib.Dec.{leb, eqb}
 use Rattle.laws.specs.Checks.{every}
+use Rattle.image.specs.declared.cell.Cell.the-variants.{Errors}
 use Rattle.image.specs.Version.{Version, versionNumber, imageLength}
+use Rattle.image.specs.Cell.{offset}
 use Rattle.image.specs.Words.{tableWord}
 
 -- letters IZK, and the version
@@ -22,7 +24,7 @@ addressOk m = not (eqb (address m) 0)
 
 -- an error table has at most 21 rows
 unfoldable pub countOk : List ℕ → ℕ → Bool
-countOk m e = leb (getD m (713 + 64 * e) 0) 21
+countOk m e = leb (getD m (offset (Errors e)) 0) 21
 
 -- a table's word has eleven bits
 unfoldable pub wordOk : List ℕ → ℕ → Bool

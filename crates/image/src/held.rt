@@ -16,7 +16,7 @@ pub struct Held {
 }
 
 // A refusal reports two zeros.
-fn refused(n: u8) -> Held
+fn unheld(n: u8) -> Held
     ensures { λ r. ⌜ r ≡ unheld n ⌝ }
 {
     Held {
@@ -28,7 +28,7 @@ fn refused(n: u8) -> Held
 
 // Part p has bit p - 1, so that past t trailing ones part t + 1 is the first that is missing, unless all eleven are there. Trailing ones
 // are the trailing zeros of the complement, which the language counts.
-fn parts_of(w: u16) -> Held
+fn held_of(w: u16) -> Held
     requires { ⌜ w < 2048 ⌝ }
     ensures { λ r. ⌜ r ≡ heldOf w ⌝ }
 {
@@ -54,11 +54,11 @@ pub fn held_parts(m: &[u8], table: u32) -> Held
     ensures { λ r. ⌜ r ≡ heldParts current (now (m .entry)) table ⌝ }
 {
     if !is_usable(m) {
-        return refused(1);
+        return unheld(1);
     }
     let k = table_index(table);
     if 16 <= k {
-        return refused(10);
+        return unheld(10);
     }
-    parts_of(word_at(m, Cell::WORDS_OFFSET + Cell::WORD_SIZE * (k as usize)))
+    held_of(word_at(m, Cell::WORDS_OFFSET + Cell::WORD_SIZE * (k as usize)))
 }

@@ -13,7 +13,7 @@ ghost use Rattle.image.specs.Cell.{isCell};
 ghost use Rattle.image.specs.Stored.{touchedAll, bits, stored, FitStore};
 
 // A part's bit goes with the part.
-fn mark(cell: Cell, m: &mut [u8])
+fn put_bits(cell: Cell, m: &mut [u8])
     requires { ⌜ (isCell cell ≡ true) × (length (now m) ≡ imageLength current) ⌝ }
     ensures { λ _. ⌜ now (m .exit) ≡ touchedAll [] [] (bits cell) (now (m .entry)) ⌝ }
 {
@@ -33,5 +33,5 @@ pub fn store(cell: Cell, bytes: &[u8], m: &mut [u8])
     let past = start.put_all(m, bytes);
     let left = cell.size() - bytes.len();
     past.put_zeros(m, left);
-    mark(cell, m);
+    put_bits(cell, m);
 }

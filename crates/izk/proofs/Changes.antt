@@ -1,5 +1,5 @@
--- What serving a frame changes, for every version of the image and every lawful hearing: a refusal nothing, a show or a signature nothing in the image, a write its own
--- cell. Which of these it is rests on the frame and the image's address. Assumes nothing.
+-- What serving a frame changes, for every version of the image and every lawful hearing: a refusal nothing, a show or a signature nothing in
+-- the image, a write its own cell. Which of these it is rests on the frame and the image's address. Assumes nothing.
 use mathlib.Core.Path.{_≡_, refl, sym, _∙_}
 use mathlib.Core.Logic.{_≢_, _⊎_, inl, inr}
 use mathlib.Core.List.{List}
@@ -23,7 +23,7 @@ use Rattle.image.specs.Usable.{usable, address}
 use Rattle.image.specs.Stored.{FitStore, touches}
 use Rattle.image.proofs.Cells.{one-cell, placed, word-inside}
 use Rattle.image.proofs.UsableFacts.{facts}
-use Rattle.image.proofs.Touches.{Own, touches-low}
+use Rattle.image.proofs.Touches.{Own, touches-low, no-touch-in-cell}
 use Rattle.image.proofs.Stores.{stored-length, byte-stays, bit-stays, own-bit, cell-filled}
 use Rattle.rules.specs.declared.rule.Act.the-variants.{Show, Sign, Store}
 use Rattle.rules.specs.declared.rule.Act.{Act}
@@ -111,7 +111,8 @@ module _ (ear : Hearing) (ok : Lawful ear) (v : Version) (f m out : List ℕ) (e
       let fit = accepted-fits ear f m e (Store k) d h ok .act in
       let l = facts v m u .long-is in
       let bs = drop k (contentsOf f) in
-      rw (served-is ear v f m out u r, accepted-leaves ear f m e (Store k) d h v) (record { bytes = cell-filled v d bs fit m l; its-bit = own-bit v d bs fit m l })
+      rw (served-is ear v f m out u r, accepted-leaves ear f m e (Store k) d h v)
+      (record { bytes = cell-filled v d bs fit m l; its-bit = own-bit v d bs fit m l })
 
   pub show-and-sign-change-nothing : (a : Act) → (a ≡ Show) ⊎ (a ≡ Sign) → ear (address m) f ≡ Accepted e a d → served ear v f m out .image ≡ m
   show-and-sign-change-nothing a s h = go (way ear v f m out)
@@ -141,6 +142,6 @@ module _ (v : Version) (d : Cell) (m m′ : List ℕ) (only : OnlyIn v d m m′)
       record {
         bytes =
             slice-same m′ m (offset e) (size e) (only .long)
-            (λ i a. only .bytes i (λ b. n (one-cell e d c (only .cell) i a b)) (λ w. placed v e c .words i a (touches-low v d i (only .cell) w)));
+            (λ i a. only .bytes i (λ b. n (one-cell e d c (only .cell) i a b)) (no-touch-in-cell v e d c (only .cell) i a));
         its-bit = λ j q i. only .bits j q (ltb-true j 16 (and-both (ltb j 16) (ltb q 11) (rw i at c) .0)) (λ z. n (i ∙ sym z));
       }

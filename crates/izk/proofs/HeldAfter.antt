@@ -46,7 +46,8 @@ counted v k p bs m fit u = go (word-stored v (Part k p) bs fit m whole k (ltb-tr
     numbers : (ltb k 16 ≡ true) × (ltb p 11 ≡ true)
     numbers = and-both (ltb k 16) (ltb p 11) (fit .cell)
 
-    go : WordAfter (Part k p) k (tableWord m k) (tableWord (stored v (Part k p) bs m) k) → onesIn 11 (tableWord (stored v (Part k p) bs m) k) ≡ onesIn 11 (tableWord m k) + (1 - bit (tableWord m k) p)
+    go : WordAfter (Part k p) k (tableWord m k) (tableWord (stored v (Part k p) bs m) k)
+        → onesIn 11 (tableWord (stored v (Part k p) bs m) k) ≡ onesIn 11 (tableWord m k) + (1 - bit (tableWord m k) p)
     go (inl e) =
         let b : bit (tableWord m k) p ≡ 1 = ap (λ (w : ℕ). bit w p) (sym e) ∙ own-bit v (Part k p) bs fit m whole k p refl in
         rw (e, b) (omega arith)
@@ -55,11 +56,13 @@ counted v k p bs m fit u = go (word-stored v (Part k p) bs fit m whole k (ltb-tr
         rw (e, z) (ones-with 11 (tableWord m k) p (ltb-true p 11 (numbers .1)))
 
 -- the number of held parts grows by one if the part was missing, and stays if it was held
-pub part-counts-once : (ear : Hearing) → Lawful ear → (v : Version) (f m out : List ℕ) (e n t p : ℕ) → isTable t ≡ true → ear (address m) f ≡ Accepted e (Store n) (Part (tableIndex t) p)
+pub part-counts-once : (ear : Hearing) → Lawful ear → (v : Version) (f m out : List ℕ) (e n t p : ℕ) → isTable t ≡ true
+    → ear (address m) f ≡ Accepted e (Store n) (Part (tableIndex t) p)
     → usable v m ≡ true → 269 ≤ length out
     → heldParts v (served ear v f m out .image) t .parts ≡ heldParts v m t .parts + (1 - bit (tableWord m (tableIndex t)) p)
 part-counts-once ear ok v f m out e n t p i h u r =
+    let left = ap (λ a. a .image) (served-is ear v f m out u r) ∙ accepted-leaves ear f m e (Store n) (Part (tableIndex t) p) h v in
     held-is v (served ear v f m out .image) t (usable-stays ear v f m out ok u) i
-    ∙ ap (λ (w : ℕ). onesIn 11 w) (ap (λ (x : List ℕ). tableWord x (tableIndex t)) (ap (λ a. a .image) (served-is ear v f m out u r) ∙ accepted-leaves ear f m e (Store n) (Part (tableIndex t) p) h v))
+    ∙ ap (λ (x : List ℕ). onesIn 11 (tableWord x (tableIndex t))) left
     ∙ counted v (tableIndex t) p (drop n (contentsOf f)) m (accepted-fits ear f m e (Store n) (Part (tableIndex t) p) h ok .act) u
     ∙ ap (λ (c : ℕ). c + (1 - bit (tableWord m (tableIndex t)) p)) (sym (held-is v m t u i))

@@ -16,7 +16,8 @@ use Rattle.command.specs.Reply.{Serves}
 use Rattle.izk.specs.Heard.{heard}
 use Rattle.izk.specs.Block.{served}
 
-pub serve-one-outcome : (f m out : List ℕ) (r s : Answer) (m′ m″ o p : List ℕ) → Serves (served heard current f m out) r m′ o → Serves (served heard current f m out) s m″ p
+pub serve-one-outcome : (f m out : List ℕ) (r s : Answer) (m′ m″ o p : List ℕ) → Serves (served heard current f m out) r m′ o
+    → Serves (served heard current f m out) s m″ p
     → (r ≡ s) × (m′ ≡ m″) × (o ≡ p)
 serve-one-outcome f m out r s m′ m″ o p x y = (
   alike r s (x .number-is ∙ sym (y .number-is)) (x .len-is ∙ sym (y .len-is)),
@@ -30,7 +31,8 @@ take-apart-one-outcome f out = one-outcome (apart f out)
 pub build-one-outcome : (c out : List ℕ) (r s : Answer) (o p : List ℕ) → Does (built c out) r o → Does (built c out) s p → (r ≡ s) × (o ≡ p)
 build-one-outcome c out = one-outcome (built c out)
 
-pub fresh-one-outcome : (m : List ℕ) (a r s : ℕ) (m′ m″ : List ℕ) → Freshens (freshened current m a) r m′ → Freshens (freshened current m a) s m″ → (r ≡ s) × (m′ ≡ m″)
+pub fresh-one-outcome : (m : List ℕ) (a r s : ℕ) (m′ m″ : List ℕ) → Freshens (freshened current m a) r m′ → Freshens (freshened current m a) s m″
+    → (r ≡ s) × (m′ ≡ m″)
 fresh-one-outcome m a = freshens-one-outcome (freshened current m a)
 
 pub held-parts-one-outcome : (m : List ℕ) (t : ℕ) (r s : Held) → r ≡ heldParts current m t → s ≡ heldParts current m t → r ≡ s

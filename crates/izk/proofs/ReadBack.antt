@@ -86,7 +86,8 @@ rows-same c d h =
     let p = when-it _ _ _ h in
     rw (and-both (within 1 8 (byte c 3)) _ (p .0) .0) (ap Named′.Cell (p .1))
 
-pair-of : {w r : ℕ} {x y : Rule} (k : ℕ) → ruleOf w commands ≡ F.Rule x → ruleOf r commands ≡ F.Rule y → x .act ≡ Store k → y .act ≡ Show → NamesAlike x y → Pair w r
+pair-of : {w r : ℕ} {x y : Rule} (k : ℕ) → ruleOf w commands ≡ F.Rule x → ruleOf r commands ≡ F.Rule y → x .act ≡ Store k → y .act ≡ Show → NamesAlike x y
+    → Pair w r
 pair-of {x} {y} k i j s t n = record { from = k; writing = x; reading = y; written = i; read = j; stores = s; shows = t; same = n }
 
 pub pairs : Pair 51 50 × Pair 53 54 × Pair 59 60 × Pair 62 63 × Pair 77 78
@@ -100,13 +101,15 @@ pairs = (
 )
 
 -- so what the one stores the other replies, after the bytes it echoes
-pub written-reads-back : {w r : ℕ} (p : Pair w r) (ear : Hearing) → Lawful ear → (v : Version) (f g m out out′ : List ℕ) → usable v m ≡ true → 269 ≤ length out → 269 ≤ length out′
+pub written-reads-back : {w r : ℕ} (p : Pair w r) (ear : Hearing) → Lawful ear → (v : Version) (f g m out out′ : List ℕ) → usable v m ≡ true
+    → 269 ≤ length out → 269 ≤ length out′
     → byte (contentsOf f) 2 ≡ w → byte (contentsOf g) 2 ≡ r → SameBytes (p .reading .echo) (contentsOf f) (contentsOf g)
     → served ear v f m out .number ≡ 0 → served ear v g (served ear v f m out .image) out′ .number ≡ 0
     → Replies (served ear v g (served ear v f m out .image) out′) (frameOf (take (2 + p .reading .echo) (contentsOf g) ++ drop (p .from) (contentsOf f)))
 written-reads-back p ear ok v f g m out out′ u room room′ cf cg same-bytes zf zg =
     let x = zero-is-accepted ear v f m out ok u room zf in
-    let y : Accepts ear (address m) g = rw (address-stays ear v f m out ok u) at (zero-is-accepted ear v g _ out′ ok (usable-stays ear v f m out ok u) room′ zg) in
+    let z = zero-is-accepted ear v g _ out′ ok (usable-stays ear v f m out ok u) room′ zg in
+    let y : Accepts ear (address m) g = rw (address-stays ear v f m out ok u) at z in
     let a = ok .follows (address m) f (p .writing) (x .verdict) (rw cf (p .written)) in
     let b = ok .follows (address m) g (p .reading) (y .verdict) (rw cg (p .read)) in
     let n = p .same (contentsOf f) (contentsOf g) (x .cell) same-bytes (a .names) in

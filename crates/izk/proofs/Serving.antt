@@ -112,7 +112,9 @@ module _ (ear : Hearing) (v : Version) (f m out : List ℕ) where
     fits = omega (arith, answered-length ear ok v f m u)
 
     pub reply-seen : take (served ear v f m out .len) (served ear v f m out .out) ≡ answered ear v f m .reply
-    reply-seen = rw (served-is u room) (lay-take out (answered ear v f m .reply) fits (length (answered ear v f m .reply)) (omega arith) ∙ take-length (answered ear v f m .reply))
+    reply-seen =
+        let reply = answered ear v f m .reply in
+        rw (served-is u room) (lay-take out reply fits (length reply) (omega arith) ∙ take-length reply)
 
     pub rest-stays : drop (served ear v f m out .len) (served ear v f m out .out) ≡ drop (served ear v f m out .len) out
     rest-stays = rw (served-is u room) (lay-rest out (answered ear v f m .reply) fits)

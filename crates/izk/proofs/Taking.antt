@@ -23,12 +23,14 @@ use Rattle.izk.specs.Block.{served}
 use Rattle.izk.proofs.Serving.{served-is}
 
 -- a refusal reports its number and length 0, and leaves both buffers
-pub refused-serves : (f m out : List ℕ) (n : ℕ) → served heard current f m out ≡ sent (refusal n m) out → Serves (served heard current f m out) (record { number = n; len = 0 }) m out
+pub refused-serves : (f m out : List ℕ) (n : ℕ) → served heard current f m out ≡ sent (refusal n m) out
+    → Serves (served heard current f m out) (record { number = n; len = 0 }) m out
 refused-serves f m out n e = rw e (record { number-is = refl; len-is = refl; image-is = refl; out-is = sym (lay-none out 0) })
 
 module _ (f z w : List ℕ) (r : Answer) (room : 132 ≤ length z) (d : Does (apart f z) r w) where
   -- a number that is not 0 is serving's number
-  pub taken-refuses : (m out : List ℕ) → (r .number ≡ 0 → ⊥) → usable current m ≡ true → 269 ≤ length out → served heard current f m out ≡ sent (refusal (r .number) m) out
+  pub taken-refuses : (m out : List ℕ) → (r .number ≡ 0 → ⊥) → usable current m ≡ true → 269 ≤ length out
+      → served heard current f m out ≡ sent (refusal (r .number) m) out
   unfolding answered heard
   taken-refuses m out n u g = go (taken f z room)
     where
@@ -70,4 +72,5 @@ module _ (f z w : List ℕ) (r : Answer) (room : 132 ≤ length z) (d : Does (ap
     unfolding answered heard
     answered-serves m out s m′ out′ u g h =
         let o = opened in
-        rw (served-is heard current f m out u g, judged-passed Refused (frameChecks f) (recognised (address m) (contentsOf f)) (o .passes)) (rw (o .contents-are) at h)
+        rw (served-is heard current f m out u g, judged-passed Refused (frameChecks f) (recognised (address m) (contentsOf f)) (o .passes))
+        (rw (o .contents-are) at h)

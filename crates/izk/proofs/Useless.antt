@@ -1,4 +1,4 @@
--- None of the four useless blocks keeps the promise: each breaks it at a line of the table of frames. Assumes nothing.
+-- None of the four useless blocks keeps the promise: each breaks it at an example. Assumes nothing.
 use mathlib.Core.Path.{_≡_, refl, sym, ap, _∙_}
 use mathlib.Core.List.{List, [], _∷_, List·Memᴰ·head, List·Memᴰ·tail}
 use mathlib.Core.Bool.{true, _&&_}
@@ -18,7 +18,7 @@ use Rattle.izk.specs.Frames.{Example, ended, on, after, right, example, 
 use Rattle.izk.specs.Useless.{Block, Keeps, replyOf, RefusesAll, RepliesTheSame, StoresNothing, EchoesLater}
 use Rattle.izk.proofs.Frames.{examples-hold}
 
--- ---- what a line of the table says
+-- ---- what an example says
 
 module _ (l : Example) (h : right l ≡ true) where
   abbrev A : BuffersAfter
@@ -50,7 +50,8 @@ p1 = all-of right (examples-hold .0) (List·Memᴰ·head refl)
 p9 : right P9 ≡ true
 unfolding examples
 p9 = all-of right (examples-hold .0)
-    (List·Memᴰ·tail (List·Memᴰ·tail (List·Memᴰ·tail (List·Memᴰ·tail (List·Memᴰ·tail (List·Memᴰ·tail (List·Memᴰ·tail (List·Memᴰ·tail (List·Memᴰ·head refl)))))))))
+    (List·Memᴰ·tail (List·Memᴰ·tail (List·Memᴰ·tail (List·Memᴰ·tail (List·Memᴰ·tail (List·Memᴰ·tail (List·Memᴰ·tail (List·Memᴰ·tail
+    (List·Memᴰ·head refl)))))))))
 
 p11 : right P11 ≡ true
 unfolding examples

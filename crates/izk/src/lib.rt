@@ -30,7 +30,7 @@ pub fn serve(frame: &[u8], m: &mut [u8], out: &mut [u8]) -> Answer
         return Answer { number, len: 0 };
     }
     let n = taken.len;
-    command::answer(&work[..n], m, out)
+    command::reply_to(&work[..n], m, out)
 }
 
 // Takes a frame apart: its body without the checksum stands at the start of the output. Refuses 2 to 6.

@@ -131,7 +131,8 @@ ones-with (suc n) w k l = go (ℕ-discrete k n) (λ m. ones-with n w k m)
     below zero h = refl
     below (suc m) h = ap₂ _+_ (bit-kept w k m (λ e. absurd (let z : ⊥ = omega arith in z))) (below m (omega arith))
 
-    go : Dec (k ≡ n) → (k < n → onesIn n (withBit w k) ≡ onesIn n w + (1 - bit w k)) → bit (withBit w k) n + onesIn n (withBit w k) ≡ bit w n + onesIn n w + (1 - bit w k)
+    go : Dec (k ≡ n) → (k < n → onesIn n (withBit w k) ≡ onesIn n w + (1 - bit w k))
+        → bit (withBit w k) n + onesIn n (withBit w k) ≡ bit w n + onesIn n w + (1 - bit w k)
     go (yes e) ih = ⊎-elim here there (bit-cases w k)
       where
         last : bit (withBit w k) n ≡ 1

@@ -16,7 +16,8 @@ AllPass [] = Unit {0}
 AllPass (c ∷ cs) = (c .passes ≡ true) × AllPass cs
 
 -- what is done with the answer may be done within
-pub judged-map : {A B : Type 0} (g : A → B) (refuse : ℕ → A) (cs : List Check) (after : A) → g (judged refuse cs after) ≡ judged (λ n. g (refuse n)) cs (g after)
+pub judged-map : {A B : Type 0} (g : A → B) (refuse : ℕ → A) (cs : List Check) (after : A)
+    → g (judged refuse cs after) ≡ judged (λ n. g (refuse n)) cs (g after)
 unfolding judged
 judged-map {B} g refuse [] after = refl
 judged-map {A} {B} g refuse (c ∷ cs) after = go (c .passes) (judged-map g refuse cs after)
@@ -54,16 +55,20 @@ unfolding risingFrom
 rising-some k c cs h = let p = and-both (ltb k (c .number)) (risingFrom (c .number) cs) h in (ltb-true _ _ (p .0), p .1)
 
 -- lowest number first: any check that fails has a number no lower than the one that is given
-pub lowest-first : {c : Check} (k : ℕ) (cs : List Check) → risingFrom k cs ≡ true → List·Memᴰ c cs → c .passes ≡ false → (firstFailing cs ≤ c .number) × (k < firstFailing cs)
+pub lowest-first : {c : Check} (k : ℕ) (cs : List Check) → risingFrom k cs ≡ true → List·Memᴰ c cs → c .passes ≡ false
+    → (firstFailing cs ≤ c .number) × (k < firstFailing cs)
 unfolding firstFailing judged
 lowest-first k [] h m f = absurd (List·Memᴰ·not-nil m)
-lowest-first {c} k (d ∷ cs) h m f = go (d .passes) refl (rising-some k d cs h) (List·Memᴰ·cases-cons m) (λ i. lowest-first (d .number) cs (rising-some k d cs h .1) i f) (above c cs)
+lowest-first {c} k (d ∷ cs) h m f =
+    let r = rising-some k d cs h in
+    go (d .passes) refl r (List·Memᴰ·cases-cons m) (λ i. lowest-first (d .number) cs (r .1) i f) (above c cs)
   where
     above : (c : Check) (cs : List Check) → (j : ℕ) → risingFrom j cs ≡ true → List·Memᴰ c cs → j < c .number
     above c [] j r i = absurd (List·Memᴰ·not-nil i)
     above c (x ∷ cs) j r i = later (rising-some j x cs r) (List·Memᴰ·cases-cons i) (λ s t. above c cs (x .number) s t)
       where
-        later : (j < x .number) × (risingFrom (x .number) cs ≡ true) → (c ≡ x) ⊎ List·Memᴰ c cs → (risingFrom (x .number) cs ≡ true → List·Memᴰ c cs → x .number < c .number) → j < c .number
+        later : (j < x .number) × (risingFrom (x .number) cs ≡ true) → (c ≡ x) ⊎ List·Memᴰ c cs
+            → (risingFrom (x .number) cs ≡ true → List·Memᴰ c cs → x .number < c .number) → j < c .number
         later p (inl e) ih = rw e (p .0)
         later p (inr i) ih = let z = ih (p .1) i in omega arith
 

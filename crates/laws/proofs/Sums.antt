@@ -36,9 +36,8 @@ sum-bound (x ∷ s) h = let e = sum-bound s (λ k. h (suc k)) in let b = h zero 
 pub sum-lay : (m : List ℕ) (a : ℕ) (bs : List ℕ) → a + length bs ≤ length m → sumOf (lay m a bs) + sumOf (slice a (length bs) m) ≡ sumOf m + sumOf bs
 unfolding slice
 sum-lay m a bs h =
-    let l : sumOf (lay m a bs) ≡ sumOf (take a m) + sumOf bs + sumOf (drop (a + length bs) m) =
-    ap sumOf (lay-between m a bs h) ∙ sum-append (take a m ++ bs) (drop (a + length bs) m) ∙ ap (λ (n : ℕ). n + sumOf (drop (a + length bs) m)) (sum-append (take a m) bs) in
-    let r : sumOf m ≡ sumOf (take a m) + sumOf (take (length bs) (drop a m)) + sumOf (drop (a + length bs) m) =
-    ap sumOf (sym (take-append-drop (a + length bs) m)) ∙ sum-append (take (a + length bs) m) (drop (a + length bs) m)
-    ∙ ap (λ (n : ℕ). n + sumOf (drop (a + length bs) m)) (ap sumOf (take-add a (length bs) m) ∙ sum-append (take a m) (take (length bs) (drop a m))) in
-    omega arith
+    let n : ℕ = a + length bs in
+    let new : sumOf (lay m a bs) ≡ sumOf (take a m ++ bs) + sumOf (drop n m) = ap sumOf (lay-between m a bs h) ∙ sum-append (take a m ++ bs) (drop n m) in
+    let old : sumOf m ≡ sumOf (take n m) + sumOf (drop n m) = ap sumOf (sym (take-append-drop n m)) ∙ sum-append (take n m) (drop n m) in
+    let front = ap sumOf (take-add a (length bs) m) ∙ sum-append (take a m) (take (length bs) (drop a m)) in
+    omega (arith, sum-append (take a m) bs)

@@ -60,11 +60,14 @@ module _ (ear : Hearing) (ok : Lawful ear) (v : Version) (a : ℕ) where
   step-is : (m : List ℕ) (x : Call) → Good v a m → step ear v m x ≡ does x m
   unfolding answered
   step-is m x g =
-      ap₂ (λ (t : BuffersAfter) (l : List ℕ). ((t .number, l), t .image)) (served-is ear v (x .frame) m (x .out) (g .0) (x .room)) (reply-seen ear v (x .frame) m (x .out) ok (g .0) (x .room))
+      ap₂ (λ (t : BuffersAfter) (l : List ℕ). ((t .number, l), t .image)) (served-is ear v (x .frame) m (x .out) (g .0) (x .room))
+      (reply-seen ear v (x .frame) m (x .out) ok (g .0) (x .room))
       ∙ ap (λ (b : ℕ). did v (ear b (x .frame)) (contentsOf (x .frame)) m) (g .1)
 
   stays : (m : List ℕ) (x : Call) → Good v a m → Good v a (step ear v m x .1)
-  stays m x g = rw (served-is ear v (x .frame) m (x .out) (g .0) (x .room)) (answered-usable ear ok v (x .frame) m (g .0), answered-address ear ok v (x .frame) m (g .0) ∙ g .1)
+  stays m x g =
+      rw (served-is ear v (x .frame) m (x .out) (g .0) (x .room))
+      (answered-usable ear ok v (x .frame) m (g .0), answered-address ear ok v (x .frame) m (g .0) ∙ g .1)
 
   module _ (m : List ℕ) (x y : Call) (g : Good v a m) where
     -- after x, y does what it would do on the image that x leaves
@@ -89,14 +92,17 @@ module _ (ear : Hearing) (ok : Lawful ear) (v : Version) (a : ℕ) where
   -- ---- any list of calls
 
   -- demand 3: in any order each call has the number and the reply that it has in the list, and the image that is left is the list's
-  pub any-order-serves : (xs : List Call) (o : List ℕ) (m : List ℕ) → Good v a m → Reorders (length xs) o → NoClash (Clash ear a) nothing xs → SameService (step ear v) nothing (0, []) m xs o
+  pub any-order-serves : (xs : List Call) (o : List ℕ) (m : List ℕ) → Good v a m → Reorders (length xs) o → NoClash (Clash ear a) nothing xs
+      → SameService (step ear v) nothing (0, []) m xs o
   any-order-serves = any-order (step ear v) (Good v a) (Clash ear a) stays commute nothing (0, []) clash-turn
 
   -- by place
-  pub any-order-answers : (xs : List Call) (o : List ℕ) (m : List ℕ) → Good v a m → Reorders (length xs) o → NoClash (Clash ear a) nothing xs → (k : ℕ) → k < length o
+  pub any-order-answers : (xs : List Call) (o : List ℕ) (m : List ℕ) → Good v a m → Reorders (length xs) o → NoClash (Clash ear a) nothing xs
+      → (k : ℕ) → k < length o
       → getD (outcomes (step ear v) m (pick nothing xs o)) k (0, []) ≡ getD (outcomes (step ear v) m xs) (place o k) (0, [])
   any-order-answers xs o m g r n = each-outcome (step ear v) nothing (0, []) m xs o (any-order-serves xs o m g r n)
 
   -- and where calls clash, in any order that keeps theirs
-  pub keeping-order-serves : (xs : List Call) (o : List ℕ) (m : List ℕ) → Good v a m → Reorders (length xs) o → KeepsClashes (Clash ear a) nothing xs o → SameService (step ear v) nothing (0, []) m xs o
+  pub keeping-order-serves : (xs : List Call) (o : List ℕ) (m : List ℕ) → Good v a m → Reorders (length xs) o → KeepsClashes (Clash ear a) nothing xs o
+      → SameService (step ear v) nothing (0, []) m xs o
   keeping-order-serves = keeping-order (step ear v) (Good v a) (Clash ear a) stays commute nothing (0, [])

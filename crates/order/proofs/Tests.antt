@@ -14,8 +14,8 @@ use Rattle.image.specs.declared.cell.Cell.{Cell}
 use Rattle.image.specs.Cell.{offset}
 use Rattle.rules.specs.declared.verdict.Verdict.{Verdict}
 use Rattle.command.specs.Reply.{readsOf, writesOf}
-use Rattle.order.specs.Serving.{Call, nothing, Meets, Clash}
 use Rattle.izk.specs.Heard.{Hearing}
+use Rattle.order.specs.Serving.{Call, nothing, Meets, Clash}
 
 -- cells that stand at other offsets are others
 unfoldable pub disjoint : List Cell → List Cell → Bool
@@ -57,5 +57,6 @@ pub no-clash-of : (ear : Hearing) (a : ℕ) (xs : List Call) → quiet ear a xs 
 unfolding quiet
 no-clash-of ear a xs h i j l k c =
     let hears : Call → Verdict = (λ x. ear a (x .frame)) in
-    let p = rw (List·getD-map hears xs i nothing, List·getD-map hears xs j nothing) at (none-meet (hears nothing) (map hears xs) h i j l (rw (length-map xs hears) k)) in
+    let q = none-meet (hears nothing) (map hears xs) h i j l (rw (length-map xs hears) k) in
+    let p = rw (List·getD-map hears xs i nothing, List·getD-map hears xs j nothing) at q in
     ⊎-elim (p .0) (p .1) c

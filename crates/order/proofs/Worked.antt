@@ -14,7 +14,7 @@ use Rattle.reorder.proofs.Tests.{undoes, reorders-of}
 use Rattle.frame.specs.Digits.{isDigit, allDigits, valueOf, charOf, charsOf, bytesOf, checksumOf}
 use Rattle.frame.specs.Apart.{lengthOk, endsOk, inner, bodyOf, contentsOf, sumOk, frameChecks}
 use Rattle.frame.specs.Built.{frameOf}
-use Rattle.image.specs.Version.{current}
+use Rattle.image.specs.Version.{versionNumber, current}
 use Rattle.image.specs.Cell.{when, isTable, tableIndex, partNamed}
 use Rattle.image.specs.Words.{tableWord}
 use Rattle.image.specs.Usable.{markOk, addressOk, countOk, wordOk, usable}
@@ -80,10 +80,11 @@ words = zeros 2 ++ (7 ∷ (255 ∷ (zeros 14 ++ (0 ∷ (3 ∷ zeros 12)))))
 
 -- the whole image: mark, version and address, the words, the rows of both tables, and 0 elsewhere
 unfoldable pub expected : List ℕ
-expected = (73 ∷ (90 ∷ (75 ∷ (0 ∷ (1 ∷ (1 ∷ zeros 11)))))) ++ (words ++ (zeros 2584 ++ (rows 1 11 ++ (zeros 9856 ++ (rows 1 2 ++ zeros 9600)))))
+expected = (73 ∷ (90 ∷ (75 ∷ (0 ∷ (versionNumber current ∷ (1 ∷ zeros 11)))))) ++ (words ++ (zeros 2584 ++ (rows 1 11 ++ (zeros 9856 ++ (rows 1 2 ++ zeros 9600)))))
 
 -- as written, and otherwise
-pub both-orders : (final (step heard current) (fresh current 1) calls ≡ expected) × (final (step heard current) (fresh current 1) (pick nothing calls other) ≡ expected)
+pub both-orders : (final (step heard current) (fresh current 1) calls ≡ expected)
+    × (final (step heard current) (fresh current 1) (pick nothing calls other) ≡ expected)
 unfolding calls other writes rows words expected served answered heard recognised sought tried stored ruleOf commands markOk addressOk countOk tableWord
     wordOk usable fresh when isTable tableIndex partNamed lengthOk endsOk inner bodyOf contentsOf sumOk frameChecks frameOf isDigit allDigits valueOf
     charOf charsOf bytesOf checksumOf withBit judged within every slice lay zeros padded sumOf two wordAt

@@ -11,8 +11,8 @@ use Rattle.image.specs.Version.{Version}
 use Rattle.image.specs.Usable.{usable, address}
 use Rattle.rules.specs.declared.verdict.Verdict.{Verdict}
 use Rattle.command.specs.Reply.{readsOf, writesOf}
-use Rattle.izk.specs.Block.{served}
 use Rattle.izk.specs.Heard.{Hearing}
+use Rattle.izk.specs.Block.{served}
 
 -- a frame, and an output with room; each call has its own
 pub record Call : Type 0 where

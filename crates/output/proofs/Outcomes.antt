@@ -12,7 +12,8 @@ use Rattle.output.specs.Output.{OutputAfter, refuse, written, Does}
 pub refused : (a : OutputAfter) (r : Answer) (out : List ℕ) (n : ℕ) → a ≡ refuse out n → r .number ≡ n → r .len ≡ 0 → Does a r out
 refused a r out n e h g = record { number-is = rw e h; len-is = rw e g; out-is = rw e }
 
-pub filled : (a : OutputAfter) (r : Answer) (out left bytes : List ℕ) → a ≡ written out bytes → r .number ≡ 0 → r .len ≡ length bytes → left ≡ lay out 0 bytes → Does a r left
+pub filled : (a : OutputAfter) (r : Answer) (out left bytes : List ℕ) → a ≡ written out bytes → r .number ≡ 0 → r .len ≡ length bytes
+    → left ≡ lay out 0 bytes → Does a r left
 filled a r out left bytes e h g l = record { number-is = rw e h; len-is = rw e g; out-is = rw e l }
 
 -- ---- one outcome: two answers that do what the definition says, with what they leave, are the same

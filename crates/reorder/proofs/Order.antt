@@ -44,7 +44,8 @@ module _ {S F O : Type 0} (step : S → F → O × S) (Good : S → Type 0) (Cla
           reordered step frame ans Good Clash stays commute (length fs) 0 o s t good pairs inside all in-list
 
   -- any reordering, where no two clash
-  pub any-order : ((f g : F) → Clash f g → Clash g f) → (fs : List F) (o : List ℕ) (s : S) → Good s → Reorders (length fs) o → NoClash Clash d fs → SameService step d e s fs o
+  pub any-order : ((f g : F) → Clash f g → Clash g f) → (fs : List F) (o : List ℕ) (s : S) → Good s → Reorders (length fs) o
+      → NoClash Clash d fs → SameService step d e s fs o
   any-order turn fs o s good re none = keeping-order fs o s good re (λ k m h l c. go k m h l c (decLt (place o k) (place o m)))
     where
       go : (k m : ℕ) → k < m → m < length o → Clash (getD fs (place o k) d) (getD fs (place o m) d) → Dec (place o k < place o m) → place o k < place o m

@@ -99,12 +99,16 @@ module _ {S F O : Type 0} (step : S → F → O × S) (frame : ℕ → F) (ans :
   base d e [] s k hf ha = refl
   base d e (f ∷ fs) s k hf ha =
       let is-f : frame k ≡ f = hf 0 k (omega arith) (omega arith) in
-      rw is-f (sym (ha 0 k (omega arith) (omega arith)), base d e fs (step s f .1) (suc k) (λ i j p h. hf (suc i) j (omega arith) (omega arith)) (λ i j p h. ha (suc i) j (omega arith) (omega arith)))
+      rw is-f (
+        sym (ha 0 k (omega arith) (omega arith)),
+        base d e fs (step s f .1) (suc k) (λ i j p h. hf (suc i) j (omega arith) (omega arith)) (λ i j p h. ha (suc i) j (omega arith) (omega arith)),
+      )
 
   module _ (Good : S → Type 0) (Clash : F → F → Type 0) (stays : (s : S) (f : F) → Good s → Good (step s f .1))
       (commute : (s : S) (f g : F) → Good s → ¬ Clash f g → Commutes step s f g) where
     -- the least place may be served first
-    to-front : {x : ℕ} {q : List ℕ} (m : List·Memᴰ x q) (s t : S) → Good s → Pairs (Free Clash frame) q → ((y : ℕ) → List·Memᴰ y q → x ≤ y) → Runs s (x ∷ rest m) t → Runs s q t
+    to-front : {x : ℕ} {q : List ℕ} (m : List·Memᴰ x q) (s t : S) → Good s → Pairs (Free Clash frame) q
+        → ((y : ℕ) → List·Memᴰ y q → x ≤ y) → Runs s (x ∷ rest m) t → Runs s q t
     to-front {x} (List·Memᴰ·head {xs} e) s t g p low r = subst (λ z. Runs s (z ∷ xs) t) e r
     to-front {x} (List·Memᴰ·tail {x = y} {xs} m) s t g p low r =
         go (p .0 x m) (λ u. to-front m (step s (frame y) .1) t (stays s (frame y) g) (p .1) (λ z h. low z (List·Memᴰ·tail h)) u)

@@ -35,7 +35,7 @@ use Rattle.rules.specs.Verdict.{triedOn, tried, triedIf, sought, recogni
 use Rattle.rules.specs.Fits.{Fit, longest, FitAccepted, FitVerdict}
 use Rattle.rules.proofs.Naming.{Alike, constants-named, errors-named, table-named, part-named, Counted, rows-named}
 
--- ---- what a line names
+-- ---- what a rule names
 
 -- what an entry of the column stands for: the first that it names, and whether the body has a count of rows
 record Kind : Type 0 where
@@ -74,7 +74,7 @@ names N.WholeTable c d e = uncounted (Cells.Table 0) d c (table-named d (byte c 
 names N.ErrorTable c d e = uncounted (Cells.Errors 0) d c (errors-named d (byte c 3) e)
 names N.ErrorRows c d e = let p = rows-named d c e in record { alike = p .0; rows = λ t. p }
 
--- ---- the test of a line
+-- ---- the test of a rule
 
 abbrev shortest : Long → ℕ
 shortest (Is n) = n

@@ -1,4 +1,4 @@
--- What the code that judges a body cites: the table's lines, reserve bytes and rising rows, as a loop or a match meets them. Assumes nothing.
+-- What the code that judges a body cites: the fourteen commands, reserve bytes and rising rows, as a loop or a match meets them. Assumes nothing.
 use mathlib.Core.Path.{_≡_, refl, sym, ap, _∙_}
 use mathlib.Core.Bool.{true, false, _&&_, and-true, and-false}
 use mathlib.Core.List.{List, [], _∷_}
@@ -16,7 +16,7 @@ use Rattle.rules.specs.Rules.{Command, byte, ruleOf, rowsNamed, zeroFrom
 
 -- ---- the table
 
--- what the last arm of a match on k knows: k is the command of no line, each of which one arm more ruled out
+-- what the last arm of a match on k knows: k is the number of no command, each of which one arm more ruled out
 abbrev pub NoneOf : ℕ → Type 0 → List Command → Type 0
 NoneOf k T [] = T
 NoneOf k T (l ∷ ls) = NoneOf k (T × (k ≡ l .number → ⊥)) ls
@@ -28,8 +28,8 @@ known k T (l ∷ ls) h =
     let p = known k (T × (k ≡ l .number → ⊥)) ls h in
     (p .0 .0, rw (ne-eqb (l .number) k (λ e. p .0 .1 (sym e))) (p .1))
 
-pub no-line : (k : ℕ) (ls : List Command) → NoneOf k (Unit {0}) ls → Nothing ≡ ruleOf k ls
-no-line k ls h = known k (Unit {0}) ls h .1
+pub no-command : (k : ℕ) (ls : List Command) → NoneOf k (Unit {0}) ls → Nothing ≡ ruleOf k ls
+no-command k ls h = known k (Unit {0}) ls h .1
 
 -- ---- the count of rows
 

@@ -2,6 +2,7 @@
 use crate::print;
 use image::Cell;
 use image::IMAGE_LENGTH;
+use image::VERSION;
 
 fn usable(m: &[u8]) -> usize {
     if image::is_usable(m) { 1 } else { 0 }
@@ -46,7 +47,7 @@ fn head(m: &mut [u8]) {
     byte_line(m, 1, 91);
     byte_line(m, 2, 0);
     byte_line(m, 3, 1);
-    byte_line(m, 4, 2);
+    byte_line(m, 4, VERSION + 1);
     byte_line(m, 5, 0);
     byte_line(m, 5, 255);
 }

@@ -27,7 +27,9 @@ same-length-2 : tie.Need-same-length-2
 same-length-2 c = search needs
 
 returns-2 : tie.Need-returns-2
-returns-2 c = refused-serves _ _ _ 2 (no-room-is-2 heard current _ _ _ (sym (c .before .before .is-usable .ensures) ∙ not-false _ (c .before .if1 .left)) (c .if2 .taken))
+returns-2 c =
+    let u = sym (c .before .before .is-usable .ensures) ∙ not-false _ (c .before .if1 .left) in
+    refused-serves _ _ _ 2 (no-room-is-2 heard current _ _ _ u (c .if2 .taken))
 
 slice-aggregate-take-apart : tie.Need-slice-aggregate-take-apart
 slice-aggregate-take-apart c = search needs
@@ -50,11 +52,11 @@ returns-3 c =
 array-share-prefix-work : tie.Need-array-share-prefix-work
 array-share-prefix-work c = opened _ _ _ _ (lit≤ tt) (c .before .before .take-apart .ensures) (c .if3 .left) .fits
 
-slice-aggregate-answer : tie.Need-slice-aggregate-answer
-slice-aggregate-answer c = sym (length-take-le _ _ (opened _ _ _ _ (lit≤ tt) (c .before .before .before .take-apart .ensures) (c .before .if3 .left) .fits))
+slice-aggregate-reply-to : tie.Need-slice-aggregate-reply-to
+slice-aggregate-reply-to c = sym (length-take-le _ _ (opened _ _ _ _ (lit≤ tt) (c .before .before .before .take-apart .ensures) (c .before .if3 .left) .fits))
 
-answer-requires : tie.Need-answer-requires
-answer-requires c κs =
+reply-to-requires : tie.Need-reply-to-requires
+reply-to-requires c κs =
     let n = c .before .before .before in
     let t = n .before .before in
     let e = t .before .before in
@@ -72,7 +74,7 @@ returns-4 c =
     let n = k .before .before .before .before in
     let t = n .before .before in
     let e = t .before .before in
-    answered-serves _ _ _ _ (lit≤ tt) (t .take-apart .ensures) (n .if3 .left) _ _ _ _ _ (is-usable e) (e .if2 .left) (k .answer .ensures)
+    answered-serves _ _ _ _ (lit≤ tt) (t .take-apart .ensures) (n .if3 .left) _ _ _ _ _ (is-usable e) (e .if2 .left) (k .reply-to .ensures)
 
 pub serve-spec : {M : Type 1} → statement M
 serve-spec =
@@ -88,8 +90,8 @@ serve-spec =
     same-length-3
     returns-3
     array-share-prefix-work
-    slice-aggregate-answer
-    answer-requires
+    slice-aggregate-reply-to
+    reply-to-requires
     same-length-4
     same-length-5
     returns-4)

@@ -1,3 +1,4 @@
+-- An error table counts its rows; every other cell, which the last arm knows by its tag alone, counts all its bytes. Assumes nothing.
 use mathlib.Core.Path.{_∙_}
 use borrow.Author.Needs.{needs}
 use Rattle.command.proofs.Doing.{all-counts}

@@ -1,3 +1,4 @@
+-- What counts of a cell lies inside the cell, and so inside the image. Assumes nothing.
 use native.Mathlib.Omega.{arith}
 use borrow.Author.Needs.{needs}
 use Rattle.command.proofs.Doing.{image-long, first-inside, shown-inside, shown-is, shown-few}
@@ -38,7 +39,8 @@ part-put-all-end c =
 put-all-requires : tie.Need-put-all-requires
 put-all-requires c κs =
     let s = c .before .before .before .before .before .before .before in
-    omega (arith, s .pre .2, shown-few (s .args .cell) (s .args .m .now) (s .pre .1) (s .pre .0) (c .before .before .before .before .offset .ensures) (c .before .before .extent .ensures))
+    let a = c .before .before .before .before .offset .ensures in
+    omega (arith, s .pre .2, shown-few (s .args .cell) (s .args .m .now) (s .pre .1) (s .pre .0) a (c .before .before .extent .ensures))
 
 same-length : tie.Need-same-length
 same-length c = search needs

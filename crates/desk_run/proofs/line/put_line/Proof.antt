@@ -1,3 +1,4 @@
+-- The three parts laid one after the other are the line, whose length is theirs together. Assumes nothing.
 use mathlib.Core.List.{[], _∷_}
 use native.Mathlib.Omega.{arith}
 use borrow.Author.Needs.{needs}

@@ -1,3 +1,4 @@
+-- In each of the three cases what is shown is what was laid. Assumes nothing.
 use mathlib.Core.Path.{sym, ap}
 use mathlib.Core.List.{[], _∷_}
 use native.Mathlib.Omega.{arith}

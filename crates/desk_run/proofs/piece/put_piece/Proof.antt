@@ -1,3 +1,4 @@
+-- What serving promises bounds the reply and its line, and makes the line the one to be printed. Assumes nothing.
 use mathlib.Core.Path.{_≡_, sym}
 use mathlib.Core.List.{List}
 use Prim.Native.Nat.{ℕ, _≤_, _<_}
@@ -6,12 +7,12 @@ use lib.ListN.{length}
 use lib.Seq.{length-take-le}
 use borrow.Author.Needs.{needs}
 use Rattle.laws.specs.Bytes.{zeros}
+use Rattle.image.specs.Version.{current}
 use Rattle.command.specs.Reply.{Serves}
+use Rattle.izk.specs.Heard.{heard}
 use Rattle.izk.specs.Block.{served}
 use Rattle.desk_run.specs.Desk.{left}
 use Rattle.desk_run.proofs.Pieces.{line-short, reply-short, reply-long, line-is, reply-number}
-use Rattle.izk.specs.Heard.{heard}
-use Rattle.image.specs.Version.{current}
 use Rattle.desk_run.proofs.piece.put_piece.Statement.{statement}
 use Rattle.desk_run.proofs.piece.put_piece.Tie as tie
 

@@ -6,10 +6,10 @@ use lib.ListN.{length, drop}
 use borrow.Author.Needs.{needs}
 use Rattle.text.specs.Cut.{pieces}
 use Rattle.text.proofs.Cuts.{end-most, end-past}
+use Rattle.image.specs.Version.{current}
 use Rattle.desk_run.specs.Desk.{ran}
 use Rattle.desk_run.proofs.Pieces.{laid-fits}
 use Rattle.desk_run.proofs.Ran.{ran-full, ran-end, ran-again, runs-of}
-use Rattle.image.specs.Version.{current}
 use Rattle.desk_run.proofs.turns.run.Statement.{statement}
 use Rattle.desk_run.proofs.turns.run.Tie as tie
 

@@ -1,3 +1,4 @@
+-- An end that is wrong decides, and past two that are right the third does. Assumes nothing.
 use mathlib.Core.Path.{sym}
 use borrow.Author.Needs.{needs}
 use Rattle.frame.proofs.Answers.{ends-first, ends-second, ends-third}

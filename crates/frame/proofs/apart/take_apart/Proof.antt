@@ -1,4 +1,4 @@
--- Taking apart meets its contract: each early return is the refusal of the check it stands for, and past them the work array is the body. Assumes nothing.
+-- Each early return is the refusal of the check it stands for, and past them the work array is the body. Assumes nothing.
 use mathlib.Core.Path.{_≡_, refl, sym, ap, _∙_}
 use mathlib.Core.List.{List}
 use mathlib.Core.Bool.{Bool, true, false, cond}
@@ -51,22 +51,26 @@ right-digits : (c : tie.Else6) → allDigits (inner (frameAt (long c))) ≡ true
 right-digits c = sym (inner-is (c .before)) ∙ not-false _ (c .if6 .left)
 
 -- the bytes before the checksum, as the code counts them
-abbrev count : tie.After-decode → ℕ
+abbrev count : tie.After-bytes-of → ℕ
 count d = (length (frameAt (long (d .before))) - 3) / 2 - 1
 
-work-long : (d : tie.After-decode) → length (take (count d) (d .decode .result)) ≡ count d
-work-long d = let l = long (d .before) in work-length (frameAt l) (low l) (high l) _ _ refl (d .decode .ensures)
+work-long : (d : tie.After-bytes-of) → length (take (count d) (d .bytes-of .result)) ≡ count d
+work-long d = let l = long (d .before) in work-length (frameAt l) (low l) (high l) _ _ refl (d .bytes-of .ensures)
 
 -- where the checks come to the sum, it decides
-decided : (c : tie.After-checksum) (t : Bool) → eqb (getD (c .before .before .decode .result) (count (c .before .before)) 0) (c .checksum .result) ≡ t
-    → apart (frameAt (long (c .before .before .before))) (outAt (long (c .before .before .before)))
-    ≡ cond t (written (outAt (long (c .before .before .before))) (contentsOf (frameAt (long (c .before .before .before))))) (refuse (outAt (long (c .before .before .before))) 6)
-decided c t e =
-    let d = c .before .before in
-    let l = long (d .before) in
-    apart-checked _ _ (room l)
-    ∙ sum-decides _ _ _ t (right-length l) (right-ends (d .before .before .before .before)) (right-digits (d .before))
-    (work-ok _ (low l) (high l) _ _ refl (d .decode .ensures) _ (c .checksum .ensures) ∙ e)
+module _ (c : tie.After-checksum) where
+  abbrev decoded : tie.After-bytes-of
+  decoded = c .before .before
+
+  abbrev sized : tie.Else4
+  sized = long (decoded .before)
+
+  decided : (t : Bool) → eqb (getD (decoded .bytes-of .result) (count decoded) 0) (c .checksum .result) ≡ t
+      → apart (frameAt sized) (outAt sized) ≡ cond t (written (outAt sized) (contentsOf (frameAt sized))) (refuse (outAt sized) 6)
+  decided t e =
+      apart-checked _ _ (room sized)
+      ∙ sum-decides _ _ _ t (right-length sized) (right-ends (decoded .before .before .before .before)) (right-digits (decoded .before))
+      (work-ok _ (low sized) (high sized) _ _ refl (decoded .bytes-of .ensures) _ (c .checksum .ensures) ∙ e)
 
 -- ---- the needs
 
@@ -109,10 +113,11 @@ returns-6 : tie.Need-returns-6
 returns-6 c =
     let e = c .before .before .before in
     let l = e .before .before in
-    refused _ _ _ 5 (apart-checked _ _ (room l) ∙ digits-fail _ _ _ (right-length l) (right-ends e) (sym (inner-is (c .before)) ∙ not-true _ (c .if6 .taken))) refl refl
+    let d = sym (inner-is (c .before)) ∙ not-true _ (c .if6 .taken) in
+    refused _ _ _ 5 (apart-checked _ _ (room l) ∙ digits-fail _ _ _ (right-length l) (right-ends e) d) refl refl
 
-decode-requires : tie.Need-decode-requires
-decode-requires c κs = (omega arith, sym (c .before .all-digits .ensures) ∙ not-false _ (c .if6 .left))
+bytes-of-requires : tie.Need-bytes-of-requires
+bytes-of-requires c κs = (omega arith, sym (c .before .all-digits .ensures) ∙ not-false _ (c .if6 .left))
 
 sub-k : tie.Need-sub-k
 sub-k c = omega arith
@@ -153,7 +158,7 @@ returns-8 c =
     let e = p .before .before .before in
     let d = e .before .before .before in
     let l = long (d .before) in
-    let is = work-contents (frameAt l) (low l) (high l) _ _ refl (d .decode .ensures) in
+    let is = work-contents (frameAt l) (low l) (high l) _ _ refl (d .bytes-of .ensures) in
     let n : p .put-all .result .at ≡ length (contentsOf (frameAt l)) = omega (arith, p .put-all .ensures .past, ap length is) in
     filled _ _ _ _ _ (decided (e .before) true (eq-eqb _ _ (e .if7 .left))) refl n (p .put-all .ensures .laid ∙ ap (lay (outAt l) 0) is)
 
@@ -173,7 +178,7 @@ take-apart-spec =
     part-chars-end
     all-digits-requires
     returns-6
-    decode-requires
+    bytes-of-requires
     sub-k
     sub-k-2
     array-share-prefix-work

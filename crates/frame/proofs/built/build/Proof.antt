@@ -70,7 +70,10 @@ returns-4 c =
     let t = k .before in
     let a = t .before .before .before .before .before .args in
     let e = built-done (a .contents .now) (a .out .now) (t .before .before .if1 .left) (t .before .if2 .left) (t .if3 .left) in
-    let l = frame-laid (a .contents .now) (a .out .now) _ _ _ _ _ _ _ _ _ _ _ (k .checksum .ensures) (p1 .put .ensures) (p2 .put-chars .ensures) (p3 .put-byte .ensures) (p4 .put2 .ensures) (p5 .put3 .ensures) in
+    let first = p1 .put .ensures in
+    let body = p2 .put-chars .ensures in
+    let check = p3 .put-byte .ensures in
+    let l = frame-laid (a .contents .now) (a .out .now) _ _ _ _ _ _ _ _ _ _ _ (k .checksum .ensures) first body check (p4 .put2 .ensures) (p5 .put3 .ensures) in
     filled _ _ _ _ _ e refl (omega (arith, l .past)) (l .laid)
 
 pub build-spec : {M : Type 1} → statement M

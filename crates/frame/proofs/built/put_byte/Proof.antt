@@ -1,3 +1,4 @@
+-- Two characters laid one after the other are laid as one. Assumes nothing.
 use borrow.Author.Needs.{needs}
 use Rattle.output.proofs.Laying.{laid-then}
 use Rattle.frame.specs.Digits.{charsOf}

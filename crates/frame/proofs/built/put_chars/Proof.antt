@@ -11,7 +11,9 @@ use Rattle.frame.proofs.built.put_chars.Statement.{statement}
 use Rattle.frame.proofs.built.put_chars.Tie as tie
 
 abbrev Inv-loop : tie.InvT-loop
-Inv-loop out₀ src c₀ i₀ out c i = (i ≤ length src) × (c .at ≡ c₀ .at + 2 * i) × (length out ≡ length out₀) × (lay out (c .at) (charsOf (drop i src)) ≡ lay out₀ (c₀ .at) (charsOf src))
+Inv-loop out₀ src c₀ i₀ out c i =
+    (i ≤ length src) × (c .at ≡ c₀ .at + 2 * i) × (length out ≡ length out₀)
+    × (lay out (c .at) (charsOf (drop i src)) ≡ lay out₀ (c₀ .at) (charsOf src))
 
 abbrev μ-loop : tie.MeasureT-loop
 μ-loop out₀ src c₀ i₀ out c i = length src - i
@@ -36,13 +38,16 @@ unfolding charsOf
 loop-again c =
     let p = c .before .before in
     let d = p .before .before .before in
-    (omega arith, omega arith, omega arith, lay-more _ _ _ _ _ _ _ _ (chars-next _ _ (d .loop-test .taken)) (p .put-byte .ensures .laid) (p .put-byte .ensures .past) (d .before .loop .inv .3))
+    let l = p .put-byte .ensures in
+    (omega arith, omega arith, omega arith, lay-more _ _ _ _ _ _ _ _ (chars-next _ _ (d .loop-test .taken)) (l .laid) (l .past) (d .before .loop .inv .3))
 
 same-length : tie.Need-same-length Inv-loop μ-loop
 same-length c = omega arith
 
 returns : tie.Need-returns Inv-loop μ-loop
-returns c = record { past = omega (arith, length-chars (c .before .before .before .before .args .src .now)); laid = lay-done _ _ _ _ (chars-done _ _ (c .loop-test .left)) (c .before .loop .inv .3) }
+returns c =
+    let n = length-chars (c .before .before .before .before .args .src .now) in
+    record { past = omega arith; laid = lay-done _ _ _ _ (chars-done _ _ (c .loop-test .left)) (c .before .loop .inv .3) }
 
 pub put-chars-spec : {M : Type 1} → statement M
 put-chars-spec =

@@ -1,3 +1,4 @@
+-- On either side of 10 the definition computes. Assumes nothing.
 use mathlib.Core.Path.{sym}
 use borrow.Author.Needs.{needs}
 use Rattle.frame.proofs.Chars.{char-low, char-high}

@@ -1,3 +1,4 @@
+-- The tests cut the numbers into stretches, and on each the definition computes. Assumes nothing.
 use mathlib.Core.Path.{sym}
 use Rattle.frame.proofs.Chars.{digit-below, digit-decimal, digit-between, digit-letter}
 use Rattle.frame.proofs.digits.is_digit.Statement.{statement}

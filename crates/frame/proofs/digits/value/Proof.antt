@@ -1,3 +1,4 @@
+-- A digit lies from 48 to 70, which bounds its value on both sides. Assumes nothing.
 use mathlib.Core.Path.{_≡_, sym}
 use mathlib.Core.Logic.{_⊎_, inl, inr}
 use mathlib.Core.Bool.{true}

@@ -1,3 +1,4 @@
+-- A number lies in one of the two ranges that tables have, or in one of the three around them. Assumes nothing.
 use mathlib.Core.Path.{sym}
 use native.Mathlib.Omega.{arith}
 use borrow.Author.Needs.{needs}

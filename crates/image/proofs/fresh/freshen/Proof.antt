@@ -1,3 +1,4 @@
+-- The first check that fails decides; past both the cleared buffer is marked from the front. Assumes nothing.
 use mathlib.Core.Path.{refl}
 use native.Mathlib.Omega.{arith}
 use lib.ListN.{length-set}

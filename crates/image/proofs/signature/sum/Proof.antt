@@ -35,7 +35,8 @@ loop-less c = omega arith
 loop-again : tie.Need-loop-again Inv-loop μ-loop
 loop-again c =
     let t = c .before .before in
-    (omega arith, omega (arith, c .shared-slice-known .given (t .loop .i)), omega (arith, sum-next (t .before .args .item .now) (t .loop .i) (c .before .loop-test .taken)))
+    let next = sum-next (t .before .args .item .now) (t .loop .i) (c .before .loop-test .taken) in
+    (omega arith, omega (arith, c .shared-slice-known .given (t .loop .i)), omega (arith, next))
 
 cast-result : tie.Need-cast-result Inv-loop μ-loop
 cast-result c = omega arith

@@ -1,3 +1,4 @@
+-- The bytes and the zeros behind them are laid in one stretch, and then the bit is set. Assumes nothing.
 use mathlib.Core.Path.{_∙_}
 use native.Mathlib.Omega.{arith}
 use borrow.Author.Needs.{needs}
@@ -24,8 +25,8 @@ put-zeros-requires c κs =
     let a = c .before .before .before .before .before .before in
     omega (arith, store-room (a .before .before .before .pre .0) (a .offset .ensures))
 
-mark-requires : tie.Need-mark-requires
-mark-requires c κs = search needs
+put-bits-requires : tie.Need-put-bits-requires
+put-bits-requires c κs = search needs
 
 same-length : tie.Need-same-length
 same-length c = search needs
@@ -34,8 +35,9 @@ returns : tie.Need-returns
 returns c =
     let z = c .before .before .before .before .before .before in
     let p = z .before .before .before .before .before in
-    c .before .before .mark .ensures
-    ∙ stored-is _ _ _ (p .before .before .offset .ensures) (z .before .before .size .ensures) (p .put-all .ensures .past) (p .put-all .ensures .laid) (z .put-zeros .ensures .laid)
+    c .before .before .put-bits .ensures
+    ∙ stored-is _ _ _ (p .before .before .offset .ensures) (z .before .before .size .ensures) (p .put-all .ensures .past) (p .put-all .ensures .laid)
+    (z .put-zeros .ensures .laid)
 
 pub store-spec : {M : Type 1} → statement M
 store-spec =
@@ -46,6 +48,6 @@ store-spec =
     size-requires
     sub-left
     put-zeros-requires
-    mark-requires
+    put-bits-requires
     same-length
     returns)

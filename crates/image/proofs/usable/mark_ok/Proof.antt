@@ -1,3 +1,4 @@
+-- Each early return is the byte that the definition compares there. Assumes nothing.
 use mathlib.Core.Bool.{and-false}
 use borrow.Author.Tests.{ne-eqb}
 use borrow.Author.Needs.{needs}

@@ -1,3 +1,4 @@
+-- A shifted one is a power of two, and masking by it tests the bit. Assumes nothing.
 use borrow.Author.Needs.{needs}
 use Rattle.laws.proofs.Bits.{one-shifted}
 use Rattle.image.proofs.Words.{mask-test}

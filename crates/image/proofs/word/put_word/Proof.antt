@@ -1,3 +1,4 @@
+-- Two bytes stored one after the other are two bytes laid. Assumes nothing.
 use mathlib.Core.Path.{sym}
 use native.Mathlib.Numerals.{add-one}
 use native.Mathlib.Omega.{arith}

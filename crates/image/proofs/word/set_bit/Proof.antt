@@ -1,3 +1,4 @@
+-- A shifted one is a power of two, and or-ing it in sets the bit. Assumes nothing.
 use borrow.Author.Needs.{needs}
 use Rattle.laws.proofs.Bits.{one-shifted, or-is}
 use Rattle.image.proofs.word.set_bit.Statement.{statement}

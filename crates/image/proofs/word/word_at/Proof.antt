@@ -1,3 +1,4 @@
+-- Arithmetic on two bytes. Assumes nothing.
 use native.Mathlib.Omega.{arith}
 use borrow.Author.Needs.{needs}
 use Rattle.laws.specs.Bytes.{wordAt}

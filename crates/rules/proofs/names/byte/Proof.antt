@@ -1,3 +1,4 @@
+-- Past the end of a list its default stands. Assumes nothing.
 use mathlib.Core.Path.{sym}
 use native.Mathlib.Omega.{arith}
 use denote.Ref.{now}

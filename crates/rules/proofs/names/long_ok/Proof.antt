@@ -1,3 +1,4 @@
+-- Each arm is the definition's. Assumes nothing.
 use borrow.Author.Needs.{needs}
 use Rattle.laws.specs.Checks.{within}
 use Rattle.rules.specs.Rules.{rowed}

@@ -1,3 +1,4 @@
+-- Each arm is what a maker of cells promises of the body's bytes. Assumes nothing.
 use borrow.Author.Needs.{needs}
 use Rattle.rules.proofs.names.named_by.Statement.{statement}
 use Rattle.rules.proofs.names.named_by.Tie as tie

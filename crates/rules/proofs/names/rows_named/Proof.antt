@@ -1,3 +1,4 @@
+-- A count that is not the body's names nothing; with the right one the number alone decides. Assumes nothing.
 use mathlib.Core.Path.{_∙_}
 use borrow.Author.Needs.{needs}
 use Rattle.rules.proofs.Judging.{rows-uncounted, rows-counted}

@@ -1,6 +1,7 @@
+-- Each arm is a command of the list; what the last arm has ruled out is in no command. Assumes nothing.
 use borrow.Author.Needs.{needs}
 use Rattle.rules.specs.Rules.{commands, ruleOf}
-use Rattle.rules.proofs.Judging.{no-line}
+use Rattle.rules.proofs.Judging.{no-command}
 use Rattle.rules.proofs.rule.rule_of.Statement.{statement}
 use Rattle.rules.proofs.rule.rule_of.Tie as tie
 
@@ -104,7 +105,7 @@ returns-14 c = rw (c .before .match .keys14) (c .shows5 .ensures)
 
 returns-15 : tie.Need-returns-15
 unfolding commands
-returns-15 c = no-line _ commands (c .match .rest)
+returns-15 c = no-command _ commands (c .match .rest)
 
 pub rule-of-spec : {M : Type 1} → statement M
 rule-of-spec =

@@ -1,6 +1,7 @@
+-- The tests are the definition's, bracketed otherwise. Assumes nothing.
 use mathlib.Core.Bool.{and-assoc}
 use borrow.Author.Needs.{needs}
-use Rattle.rules.specs.Rules.{clockOk, blank}
+use Rattle.rules.specs.Rules.{clockOk}
 use Rattle.rules.proofs.values.clock_ok.Statement.{statement}
 use Rattle.rules.proofs.values.clock_ok.Tie as tie
 
@@ -50,7 +51,7 @@ is-blank-requires : tie.Need-is-blank-requires
 is-blank-requires c κs = search needs
 
 returns : tie.Need-returns
-unfolding clockOk blank
+unfolding clockOk
 returns c = simp and-assoc (cc)
 
 pub clock-ok-spec : {M : Type 1} → statement M

@@ -1,3 +1,4 @@
+-- The tests are the definition's, bracketed otherwise. Assumes nothing.
 use mathlib.Core.Bool.{and-assoc}
 use borrow.Author.Needs.{needs}
 use Rattle.rules.specs.Rules.{constantsOk}

@@ -1,3 +1,4 @@
+-- The test is the definition's. Assumes nothing.
 use mathlib.Core.Path.{refl}
 use Rattle.laws.specs.Checks.{within}
 use Rattle.rules.proofs.values.is_within.Statement.{statement}

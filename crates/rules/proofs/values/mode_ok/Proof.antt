@@ -1,3 +1,4 @@
+-- The test is the definition's. Assumes nothing.
 use borrow.Author.Needs.{needs}
 use Rattle.rules.specs.Rules.{modeOk}
 use Rattle.rules.proofs.values.mode_ok.Statement.{statement}

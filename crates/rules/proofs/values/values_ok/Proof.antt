@@ -1,3 +1,4 @@
+-- Each arm is the definition's. Assumes nothing.
 use borrow.Author.Needs.{needs}
 use Rattle.rules.proofs.values.values_ok.Statement.{statement}
 use Rattle.rules.proofs.values.values_ok.Tie as tie

@@ -1,3 +1,4 @@
+-- Arithmetic: adding 128 and taking the remainder by 256. Assumes nothing.
 use native.Mathlib.Omega.{arith}
 use borrow.Author.Needs.{needs}
 use Rattle.rules.specs.Rules.{warmth}

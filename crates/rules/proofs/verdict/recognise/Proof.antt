@@ -1,3 +1,4 @@
+-- The address first, then the command's rule: each early return is the check that the definition has there. Assumes nothing.
 use mathlib.Core.Path.{sym, _∙_}
 use borrow.Author.Tests.{eq-eqb, ne-eqb}
 use borrow.Author.Needs.{needs}

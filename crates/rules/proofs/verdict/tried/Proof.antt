@@ -1,3 +1,4 @@
+-- Each early return is the check that the definition has there; past them the verdict is the rule's. Assumes nothing.
 use mathlib.Core.Path.{sym, _∙_}
 use borrow.Author.Tests.{not-true, not-false}
 use borrow.Author.Needs.{needs}

@@ -1,3 +1,4 @@
+-- The loop never stands before its start. Assumes nothing.
 use Prim.Native.Nat.{_-_, _≤_}
 use native.Mathlib.Omega.{arith}
 use lib.ListN.{length}

@@ -1,3 +1,4 @@
+-- The part of the buffer that is lent is as long as was asked. Assumes nothing.
 use mathlib.Core.Path.{sym}
 use native.Mathlib.Omega.{arith}
 use lib.ListN.{length-take}

@@ -1,3 +1,4 @@
+-- The room that is lent lies within the buffer. Assumes nothing.
 use mathlib.Core.Path.{sym}
 use native.Mathlib.Omega.{arith}
 use lib.Seq.{length-take-le}

@@ -1,3 +1,4 @@
+-- The loop counts to 16 and keeps the image's length. Assumes nothing.
 use mathlib.Core.Path.{_≡_, refl}
 use Prim.Native.Nat.{_-_, _≤_}
 use native.Mathlib.Omega.{arith}

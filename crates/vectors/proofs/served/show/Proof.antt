@@ -1,4 +1,4 @@
--- `serve_vectors::show` is safe: the run's text lies within its buffer. Assumes nothing.
+-- `served::show` is safe: the run's text lies within its buffer. Assumes nothing.
 use mathlib.Core.Path.{sym}
 use lib.Seq.{length-take-le}
 use borrow.Author.Needs.{needs}

@@ -1,3 +1,4 @@
+-- The test is the definition's. Assumes nothing.
 use native.Mathlib.Omega.{arith}
 use borrow.Author.Tests.{lt-ltb, le-ltb}
 use Rattle.image.specs.Cell.{when, constantsNamed}

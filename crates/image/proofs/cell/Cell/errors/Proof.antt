@@ -1,3 +1,4 @@
+-- A number lies in 1..8, below or above it. Assumes nothing.
 use native.Mathlib.Omega.{arith}
 use Rattle.laws.proofs.Tests.{within-in, within-below, within-above}
 use Rattle.image.specs.Cell.{when, errorsNamed}

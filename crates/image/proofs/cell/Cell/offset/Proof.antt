@@ -1,3 +1,4 @@
+-- Each arm is the definition's for its kind. Assumes nothing.
 use borrow.Author.Needs.{needs}
 use Rattle.image.proofs.cell.Cell.offset.Statement.{statement}
 use Rattle.image.proofs.cell.Cell.offset.Tie as tie

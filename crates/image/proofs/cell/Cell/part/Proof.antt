@@ -1,3 +1,4 @@
+-- An index below 16 is a table's, and a part's number lies in 1..11, below or above it. Assumes nothing.
 use mathlib.Core.Bool.{and-false}
 use native.Mathlib.Omega.{arith}
 use borrow.Author.Needs.{needs}

@@ -1,3 +1,4 @@
+-- An index below 16 is a table's, and 16 is no table's. Assumes nothing.
 use borrow.Author.Needs.{needs}
 use Rattle.image.specs.Cell.{when, tableNamed}
 use Rattle.image.proofs.Indices.{index-is, no-index}

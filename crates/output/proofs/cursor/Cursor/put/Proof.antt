@@ -1,3 +1,4 @@
+-- A byte stored is a byte laid. Assumes nothing.
 use mathlib.Core.Path.{refl}
 use borrow.Author.Needs.{needs}
 use Rattle.laws.proofs.Bytes.{lay-one}

@@ -35,7 +35,8 @@ loop-again : tie.Need-loop-again Inv-loop μ-loop
 loop-again c =
     let p = c .before .before in
     let d = p .before .before .before in
-    (omega arith, omega arith, omega arith, lay-more _ _ _ _ (_ ∷ []) _ _ _ (next _ _ (d .loop-test .taken)) (p .put .ensures .laid) (p .put .ensures .past) (d .before .loop .inv .3))
+    let l = p .put .ensures in
+    (omega arith, omega arith, omega arith, lay-more _ _ _ _ (_ ∷ []) _ _ _ (next _ _ (d .loop-test .taken)) (l .laid) (l .past) (d .before .loop .inv .3))
 
 same-length : tie.Need-same-length Inv-loop μ-loop
 same-length c = omega arith

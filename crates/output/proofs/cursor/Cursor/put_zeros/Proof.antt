@@ -10,7 +10,9 @@ use Rattle.output.proofs.cursor.Cursor.put_zeros.Statement.{statement}
 use Rattle.output.proofs.cursor.Cursor.put_zeros.Tie as tie
 
 abbrev Inv-loop : tie.InvT-loop
-Inv-loop out₀ n c₀ left₀ out c left = (left ≤ n) × (c .at + left ≡ c₀ .at + n) × (length out ≡ length out₀) × (lay out (c .at) (zeros left) ≡ lay out₀ (c₀ .at) (zeros n))
+Inv-loop out₀ n c₀ left₀ out c left =
+    (left ≤ n) × (c .at + left ≡ c₀ .at + n) × (length out ≡ length out₀)
+    × (lay out (c .at) (zeros left) ≡ lay out₀ (c₀ .at) (zeros n))
 
 abbrev μ-loop : tie.MeasureT-loop
 μ-loop out₀ n c₀ left₀ out c left = left
@@ -31,13 +33,16 @@ loop-again : tie.Need-loop-again Inv-loop μ-loop
 loop-again c =
     let p = c .before .before in
     let d = p .before .before in
-    (omega arith, omega arith, omega arith, lay-more _ _ _ _ (0 ∷ []) _ _ _ (zeros-next _ (d .loop-test .taken)) (p .put .ensures .laid) (p .put .ensures .past) (d .before .loop .inv .3))
+    let l = p .put .ensures in
+    (omega arith, omega arith, omega arith, lay-more _ _ _ _ (0 ∷ []) _ _ _ (zeros-next _ (d .loop-test .taken)) (l .laid) (l .past) (d .before .loop .inv .3))
 
 same-length : tie.Need-same-length Inv-loop μ-loop
 same-length c = omega arith
 
 returns : tie.Need-returns Inv-loop μ-loop
-returns c = record { past = omega (arith, length-zeros (c .before .before .before .args .n)); laid = lay-done _ _ _ _ (zeros-none _ (c .loop-test .left)) (c .before .loop .inv .3) }
+returns c =
+    let n = length-zeros (c .before .before .before .args .n) in
+    record { past = omega arith; laid = lay-done _ _ _ _ (zeros-none _ (c .loop-test .left)) (c .before .loop .inv .3) }
 
 pub put-zeros-spec : {M : Type 1} → statement M
 put-zeros-spec =

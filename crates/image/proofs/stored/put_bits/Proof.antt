@@ -1,8 +1,9 @@
+-- A part's bit is set in its table's word; any other cell, known by its tag alone, touches nothing. Assumes nothing.
 use native.Mathlib.Omega.{arith}
 use borrow.Author.Needs.{needs}
 use Rattle.image.proofs.Storing.{no-bit, part-few}
-use Rattle.image.proofs.stored.mark.Statement.{statement}
-use Rattle.image.proofs.stored.mark.Tie as tie
+use Rattle.image.proofs.stored.put_bits.Statement.{statement}
+use Rattle.image.proofs.stored.put_bits.Tie as tie
 
 enum-known-cell : tie.Need-enum-known-cell
 enum-known-cell c = search needs
@@ -37,13 +38,14 @@ same-length c = search needs
 returns : tie.Need-returns
 returns c =
     let w = c .before .before .before .before .before in
-    rw (w .before .before .before .cell .given .1, ← (w .word-at .ensures), ← (c .before .before .before .set-bit .ensures)) (c .before .before .put-word .ensures)
+    rw (w .before .before .before .cell .given .1, ← (w .word-at .ensures), ← (c .before .before .before .set-bit .ensures))
+    (c .before .before .put-word .ensures)
 
 returns-2 : tie.Need-returns-2
 returns-2 c = no-bit (c .before .before .args .cell) _ (c .match .keys2)
 
-pub mark-spec : {M : Type 1} → statement M
-mark-spec =
+pub put-bits-spec : {M : Type 1} → statement M
+put-bits-spec =
     tie.close
     (tie.spec
     enum-known-cell

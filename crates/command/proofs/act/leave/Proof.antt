@@ -1,8 +1,9 @@
+-- Each arm leaves what its act does; the slice that is stored is the body from the act's index on. Assumes nothing.
 use native.Mathlib.Omega.{arith}
 use borrow.Author.Needs.{needs}
 use Rattle.command.proofs.Doing.{some-stored, stores, tail-is}
-use Rattle.command.proofs.act.change.Statement.{statement}
-use Rattle.command.proofs.act.change.Tie as tie
+use Rattle.command.proofs.act.leave.Statement.{statement}
+use Rattle.command.proofs.act.leave.Tie as tie
 
 enum-told : tie.Need-enum-told
 enum-told c = search needs
@@ -48,8 +49,8 @@ returns-3 c =
     let a = c .before .before .before .before .before .before in
     rw (a .act .given .1, ← (tail-is (a .act .given .0 .0) (a .before .before .before .before .args .body .now))) (c .before .before .store .ensures)
 
-pub change-spec : {M : Type 1} → statement M
-change-spec =
+pub leave-spec : {M : Type 1} → statement M
+leave-spec =
     tie.close
     (tie.spec
     enum-told

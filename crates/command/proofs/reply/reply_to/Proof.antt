@@ -1,10 +1,11 @@
+-- A refusal sends nothing; an accepted body fits its act, so that it can be answered. Assumes nothing.
 use mathlib.Core.Path.{sym, _∙_}
 use native.Mathlib.Omega.{arith}
 use borrow.Author.Needs.{needs}
 use Rattle.command.proofs.Doing.{image-long}
 use Rattle.command.proofs.Replying.{body-fits, refused-sends}
-use Rattle.command.proofs.reply.answer.Statement.{statement}
-use Rattle.command.proofs.reply.answer.Tie as tie
+use Rattle.command.proofs.reply.reply_to.Statement.{statement}
+use Rattle.command.proofs.reply.reply_to.Tie as tie
 
 slice-read-recognise : tie.Need-slice-read-recognise
 slice-read-recognise c =
@@ -40,8 +41,8 @@ returns-2 c =
     let e = c .before .before .before .before .before .before .before .before in
     rw (sym (e .before .before .recognise .ensures) ∙ e .echo .given .1) (c .before .before .before .before .accept .ensures)
 
-pub answer-spec : {M : Type 1} → statement M
-answer-spec =
+pub reply-to-spec : {M : Type 1} → statement M
+reply-to-spec =
     tie.close
     (tie.spec
     slice-read-recognise

@@ -1,10 +1,11 @@
+-- The echo is laid first, and behind it what the act says; both have room since an accepted body's act fits. Assumes nothing.
 use mathlib.Core.Path.{sym}
 use native.Mathlib.Omega.{arith}
 use borrow.Author.Needs.{needs}
 use Rattle.output.proofs.Laying.{laid-none, laid-then, laid-long}
 use Rattle.command.proofs.Doing.{shows, signs, opening}
-use Rattle.command.proofs.act.say.Statement.{statement}
-use Rattle.command.proofs.act.say.Tie as tie
+use Rattle.command.proofs.act.put_reply.Statement.{statement}
+use Rattle.command.proofs.act.put_reply.Tie as tie
 
 add-n : tie.Need-add-n
 add-n c = search needs
@@ -66,8 +67,8 @@ returns-3 c =
     let p = c .before .before .before .before .put-all .ensures in
     rw (c .enum-told3 .given .1) (laid-then _ _ _ _ _ _ _ _ p (laid-none _ _))
 
-pub say-spec : {M : Type 1} → statement M
-say-spec =
+pub put-reply-spec : {M : Type 1} → statement M
+put-reply-spec =
     tie.close
     (tie.spec
     add-n

@@ -8,8 +8,8 @@ use Rattle.laws.specs.Bytes.{lay}
 use Rattle.laws.proofs.Bytes.{lay-next, lay-done}
 use Rattle.frame.specs.Digits.{valueOf, bytesOf}
 use Rattle.frame.proofs.Chars.{digit-at, bytes-next, bytes-done}
-use Rattle.frame.proofs.digits.decode.Statement.{statement}
-use Rattle.frame.proofs.digits.decode.Tie as tie
+use Rattle.frame.proofs.digits.bytes_of.Statement.{statement}
+use Rattle.frame.proofs.digits.bytes_of.Tie as tie
 
 abbrev Inv-loop : tie.InvT-loop
 Inv-loop s work₀ i₀ k₀ work i k = (i ≡ 2 * k) × (i ≤ length s) × (lay work k (bytesOf (drop i s)) ≡ lay work₀ 0 (bytesOf s))
@@ -74,8 +74,8 @@ loop-again c =
 returns : tie.Need-returns Inv-loop μ-loop
 returns c = lay-done _ _ _ _ (bytes-done _ _ (c .loop-test .left)) (c .before .loop .inv .2)
 
-pub decode-spec : {M : Type 1} → statement M
-decode-spec =
+pub bytes-of-spec : {M : Type 1} → statement M
+bytes-of-spec =
     tie.close
     (tie.spec
     Inv-loop
