@@ -14,8 +14,8 @@ use Rattle.image.proofs.Cells.{size-some}
 use Rattle.image.proofs.UsableFacts.{Usable}
 use Rattle.image.proofs.Stretches.{own-cell, cell-made, item-made}
 use Rattle.image.proofs.Elsewhere.{extent-fits, stretch-stays, slice-stays, signature-stays, stored-swap}
-use Rattle.rules.specs.declared.rule.Act.the-variants.{Show, Sign, Store}
 use Rattle.rules.specs.declared.rule.Act.{Act}
+use Rattle.rules.specs.declared.rule.Act.the-variants.{Show, Sign, Store}
 use Rattle.rules.specs.Fits.{Fit}
 use Rattle.command.specs.Act.{says, leaves, reads, writes}
 

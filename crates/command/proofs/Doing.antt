@@ -12,8 +12,8 @@ use lib.ListN.{length, getD, take, drop, length-take, length-drop}
 use lib.Seq.{take-all, length-take-le}
 use Rattle.laws.specs.Bytes.{two}
 use Rattle.laws.proofs.Bytes.{slice-is}
-use Rattle.image.specs.declared.cell.Cell.the-variants.{Errors}
 use Rattle.image.specs.declared.cell.Cell.{Cell}
+use Rattle.image.specs.declared.cell.Cell.the-variants.{Errors}
 use Rattle.image.specs.Version.{current, imageLength}
 use Rattle.image.specs.Cell.{offset, size, extent, isCell, isItem}
 use Rattle.image.specs.Usable.{usable}
@@ -23,8 +23,8 @@ use Rattle.image.proofs.Cells.{placed, extent-view, size-some}
 use Rattle.image.proofs.cell.Cell.{the-type}
 use Rattle.image.proofs.UsableFacts.{facts}
 use Rattle.image.proofs.Elsewhere.{extent-fits}
-use Rattle.rules.specs.declared.rule.Act.the-variants.{Show, Sign, Store}
 use Rattle.rules.specs.declared.rule.Act.{Act}
+use Rattle.rules.specs.declared.rule.Act.the-variants.{Show, Sign, Store}
 use Rattle.rules.specs.Fits.{Fit, FitAccepted}
 use Rattle.command.specs.Act.{says}
 

@@ -20,10 +20,10 @@ use Rattle.image.specs.Usable.{usable, address}
 use Rattle.image.specs.Signature.{signature}
 use Rattle.image.proofs.UsableFacts.{facts, Usable}
 use Rattle.image.proofs.Elsewhere.{extent-fits}
-use Rattle.rules.specs.declared.rule.Act.the-variants.{Show, Sign, Store}
 use Rattle.rules.specs.declared.rule.Act.{Act}
-use Rattle.rules.specs.declared.verdict.Verdict.the-variants.{Refused, Accepted}
+use Rattle.rules.specs.declared.rule.Act.the-variants.{Show, Sign, Store}
 use Rattle.rules.specs.declared.verdict.Verdict.{Verdict}
+use Rattle.rules.specs.declared.verdict.Verdict.the-variants.{Refused, Accepted}
 use Rattle.rules.specs.Verdict.{recognised}
 use Rattle.rules.specs.Fits.{Fit, longest, FitAccepted}
 use Rattle.rules.proofs.Fit.{recognised-fits}

@@ -9,8 +9,8 @@ use Rattle.image.specs.Version.{Version}
 use Rattle.image.specs.Cell.{offset, extent, cellsOf}
 use Rattle.image.specs.Signature.{signature}
 use Rattle.image.specs.Stored.{stored}
-use Rattle.rules.specs.declared.rule.Act.the-variants.{Show, Sign, Store}
 use Rattle.rules.specs.declared.rule.Act.{Act}
+use Rattle.rules.specs.declared.rule.Act.the-variants.{Show, Sign, Store}
 
 -- what the reply goes on with, after the echo
 abbrev pub says : Version → Act → Cell → List ℕ → List ℕ

@@ -10,8 +10,8 @@ use Rattle.image.specs.declared.cell.Cell.{Cell}
 use Rattle.image.specs.Version.{Version}
 use Rattle.image.specs.Usable.{address}
 use Rattle.rules.specs.declared.rule.Act.{Act}
-use Rattle.rules.specs.declared.verdict.Verdict.the-variants.{Refused, Accepted}
 use Rattle.rules.specs.declared.verdict.Verdict.{Verdict}
+use Rattle.rules.specs.declared.verdict.Verdict.the-variants.{Refused, Accepted}
 use Rattle.rules.specs.Verdict.{recognised}
 use Rattle.command.specs.Act.{says, leaves, reads, writes}
 

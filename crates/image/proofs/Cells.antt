@@ -12,8 +12,8 @@ use borrow.Author.Tests.{leb-true, ltb-true}
 use Rattle.laws.specs.Checks.{all}
 use Rattle.laws.proofs.Tests.{and-both, or-either, never, all-of}
 use Rattle.laws.proofs.Bytes.{In}
-use Rattle.image.specs.declared.cell.Cell.the-variants.{Mask, Mode, Clock, Constants, Errors, Part, Table}
 use Rattle.image.specs.declared.cell.Cell.{Cell}
+use Rattle.image.specs.declared.cell.Cell.the-variants.{Mask, Mode, Clock, Constants, Errors, Part, Table}
 use Rattle.image.specs.Version.{Version, v1, imageLength}
 use Rattle.image.specs.Cell.{offset, size, isCell, run, partsFrom, cells, cellsOf, rising, extent}
 use Rattle.image.specs.Words.{Span, words, wordOffset, spanInside, off, inside}

@@ -11,8 +11,8 @@ use Rattle.laws.specs.Bytes.{slice, lay, padded, sumOf}
 use Rattle.laws.specs.Checks.{all}
 use Rattle.laws.proofs.Tests.{all-of}
 use Rattle.laws.proofs.Bytes.{In, Disjoint, length-lay, lay-swap, length-padded, slice-same}
-use Rattle.image.specs.declared.cell.Cell.the-variants.{Errors}
 use Rattle.image.specs.declared.cell.Cell.{Cell}
+use Rattle.image.specs.declared.cell.Cell.the-variants.{Errors}
 use Rattle.image.specs.Version.{Version, v1}
 use Rattle.image.specs.Cell.{offset, size, extent, isCell, cellsOf}
 use Rattle.image.specs.Signature.{fullSum, signature}

@@ -14,8 +14,8 @@ use Rattle.laws.specs.Bits.{bit, withBit}
 use Rattle.laws.proofs.Tests.{and-both}
 use Rattle.laws.proofs.Bytes.{In, length-lay, lay-out, lay-in, slice-same, slice-lay, length-padded, take-padded, padded-at, word-out}
 use Rattle.laws.proofs.Bits.{bit-set, bit-kept, with-bit-small}
-use Rattle.image.specs.declared.cell.Cell.the-variants.{Errors, Part}
 use Rattle.image.specs.declared.cell.Cell.{Cell}
+use Rattle.image.specs.declared.cell.Cell.the-variants.{Errors, Part}
 use Rattle.image.specs.Version.{Version, imageLength}
 use Rattle.image.specs.Cell.{offset, size, extent}
 use Rattle.image.specs.Words.{words, wordOffset, tableWord}

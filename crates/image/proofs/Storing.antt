@@ -11,8 +11,8 @@ use borrow.Author.Tests.{ltb-true}
 use Rattle.laws.specs.Bytes.{slice, lay, zeros, padded, sumOf}
 use Rattle.laws.proofs.Tests.{and-both}
 use Rattle.laws.proofs.Bytes.{lay-trans, slice-is}
-use Rattle.image.specs.declared.cell.Cell.the-variants.{Mask, Mode, Clock, Constants, Errors, Part, Table}
 use Rattle.image.specs.declared.cell.Cell.{Cell}
+use Rattle.image.specs.declared.cell.Cell.the-variants.{Mask, Mode, Clock, Constants, Errors, Part, Table}
 use Rattle.image.specs.Version.{current, imageLength}
 use Rattle.image.specs.Cell.{offset, size, isCell, isItem}
 use Rattle.image.specs.Signature.{fullSum, signature}

@@ -7,8 +7,8 @@ use native.Mathlib.Omega.{arith}
 use lib.Dec.{ltb}
 use Rattle.laws.specs.Checks.{all}
 use Rattle.laws.proofs.Tests.{never}
-use Rattle.image.specs.declared.cell.Cell.the-variants.{Mask, Mode, Clock, Constants, Errors, Part, Table}
 use Rattle.image.specs.declared.cell.Cell.{Cell}
+use Rattle.image.specs.declared.cell.Cell.the-variants.{Mask, Mode, Clock, Constants, Errors, Part, Table}
 use Rattle.image.specs.Version.{Version, imageLength}
 use Rattle.image.specs.Cell.{offset, size, isCell, isItem, run, cellsOf}
 use Rattle.image.proofs.Cells.{placed}

@@ -14,8 +14,8 @@ use Rattle.laws.specs.Bits.{withBit}
 use Rattle.laws.proofs.Tests.{and-both}
 use Rattle.laws.proofs.Bytes.{In, Disjoint, length-lay, lay-out, lay-swap, lay-over, length-two, word-two, word-out}
 use Rattle.laws.proofs.Bits.{with-bit-swap}
-use Rattle.image.specs.declared.cell.Cell.the-variants.{Mask, Mode, Clock, Constants, Errors, Part, Table}
 use Rattle.image.specs.declared.cell.Cell.{Cell}
+use Rattle.image.specs.declared.cell.Cell.the-variants.{Mask, Mode, Clock, Constants, Errors, Part, Table}
 use Rattle.image.specs.Version.{Version, v1, imageLength}
 use Rattle.image.specs.Cell.{isCell, offset, size}
 use Rattle.image.specs.Words.{words, wordOffset, tableWord}

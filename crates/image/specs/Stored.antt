@@ -6,8 +6,8 @@ use Prim.Native.Nat.{ℕ, _≤_}
 use lib.ListN.{length, getD}
 use Rattle.laws.specs.Bytes.{slice, lay, padded, two, wordAt}
 use Rattle.laws.specs.Bits.{withBit}
-use Rattle.image.specs.declared.cell.Cell.the-variants as Cells
 use Rattle.image.specs.declared.cell.Cell.{Cell}
+use Rattle.image.specs.declared.cell.Cell.the-variants as Cells
 use Rattle.image.specs.Version.{Version, v1}
 use Rattle.image.specs.Cell.{offset, size, extent, isCell}
 use Rattle.image.specs.Words.{wordOffset}

@@ -14,8 +14,8 @@ use Rattle.laws.specs.Bits.{bit}
 use Rattle.laws.proofs.Tests.{and-both}
 use Rattle.laws.proofs.Bytes.{In, lay-none, slice-same}
 use Rattle.frame.specs.Apart.{contentsOf}
-use Rattle.image.specs.declared.cell.Cell.the-variants.{Part}
 use Rattle.image.specs.declared.cell.Cell.{Cell}
+use Rattle.image.specs.declared.cell.Cell.the-variants.{Part}
 use Rattle.image.specs.Version.{Version}
 use Rattle.image.specs.Cell.{offset, size, isCell}
 use Rattle.image.specs.Words.{tableWord}
@@ -25,10 +25,10 @@ use Rattle.image.proofs.Cells.{one-cell, placed, word-inside}
 use Rattle.image.proofs.UsableFacts.{facts}
 use Rattle.image.proofs.Touches.{Own, touches-low, no-touch-in-cell}
 use Rattle.image.proofs.Stores.{stored-length, byte-stays, bit-stays, own-bit, cell-filled}
-use Rattle.rules.specs.declared.rule.Act.the-variants.{Show, Sign, Store}
 use Rattle.rules.specs.declared.rule.Act.{Act}
-use Rattle.rules.specs.declared.verdict.Verdict.the-variants.{Refused, Accepted}
+use Rattle.rules.specs.declared.rule.Act.the-variants.{Show, Sign, Store}
 use Rattle.rules.specs.declared.verdict.Verdict.{Verdict}
+use Rattle.rules.specs.declared.verdict.Verdict.the-variants.{Refused, Accepted}
 use Rattle.rules.specs.Fits.{FitAccepted}
 use Rattle.command.specs.Act.{leaves}
 use Rattle.command.specs.Reply.{refusal, done, BuffersAfter, sent}

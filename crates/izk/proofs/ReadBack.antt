@@ -20,8 +20,8 @@ use Rattle.image.proofs.Stores.{shown-back}
 use Rattle.rules.specs.declared.rule.Act.the-variants.{Show, Store}
 use Rattle.rules.specs.declared.rule.Found.the-variants as F
 use Rattle.rules.specs.declared.rule.Rule.{Rule}
-use Rattle.rules.specs.declared.verdict.Verdict.the-variants.{Accepted}
 use Rattle.rules.specs.declared.verdict.Verdict.{Verdict}
+use Rattle.rules.specs.declared.verdict.Verdict.the-variants.{Accepted}
 use Rattle.rules.specs.Rules.{byte, rowsNamed, namedBy, commands, ruleOf}
 use Rattle.rules.proofs.Naming.{when-it}
 use Rattle.command.specs.Act.{says}

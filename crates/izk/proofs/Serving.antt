@@ -19,10 +19,10 @@ use Rattle.image.specs.Version.{Version}
 use Rattle.image.specs.Usable.{usable, address}
 use Rattle.image.proofs.UsableFacts.{Usable, facts, usable-of}
 use Rattle.image.proofs.Stores.{head-stays, store-usable}
-use Rattle.rules.specs.declared.rule.Act.the-variants.{Show, Sign, Store}
 use Rattle.rules.specs.declared.rule.Act.{Act}
-use Rattle.rules.specs.declared.verdict.Verdict.the-variants.{Refused, Accepted}
+use Rattle.rules.specs.declared.rule.Act.the-variants.{Show, Sign, Store}
 use Rattle.rules.specs.declared.verdict.Verdict.{Verdict}
+use Rattle.rules.specs.declared.verdict.Verdict.the-variants.{Refused, Accepted}
 use Rattle.rules.specs.Fits.{Fit, IsRefusal, FitVerdict, Numbered}
 use Rattle.command.specs.Act.{says, leaves}
 use Rattle.command.specs.Reply.{Outcome, refusal, done, sent}

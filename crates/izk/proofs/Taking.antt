@@ -14,8 +14,8 @@ use Rattle.frame.specs.Apart.{apart, contentsOf, frameChecks}
 use Rattle.frame.proofs.Passing.{Taken, passed, failed, taken, contents-length}
 use Rattle.image.specs.Version.{current}
 use Rattle.image.specs.Usable.{usable, address}
-use Rattle.rules.specs.declared.verdict.Verdict.the-variants.{Refused}
 use Rattle.rules.specs.declared.verdict.Verdict.{Verdict}
+use Rattle.rules.specs.declared.verdict.Verdict.the-variants.{Refused}
 use Rattle.rules.specs.Verdict.{recognised}
 use Rattle.command.specs.Reply.{refusal, replied, sent, Serves}
 use Rattle.izk.specs.Heard.{heard, answered}

@@ -10,8 +10,8 @@ use Rattle.image.specs.Usable.{address}
 use Rattle.rules.specs.declared.rule.Act.{Act}
 use Rattle.rules.specs.declared.rule.Found.the-variants as Found′
 use Rattle.rules.specs.declared.rule.Rule.{Rule}
-use Rattle.rules.specs.declared.verdict.Verdict.the-variants.{Refused, Accepted}
 use Rattle.rules.specs.declared.verdict.Verdict.{Verdict}
+use Rattle.rules.specs.declared.verdict.Verdict.the-variants.{Refused, Accepted}
 use Rattle.rules.specs.Rules.{byte, commands, ruleOf}
 use Rattle.rules.specs.Verdict.{recognised}
 use Rattle.rules.specs.Fits.{FitVerdict, Numbered, Follows}

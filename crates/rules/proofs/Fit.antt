@@ -13,23 +13,23 @@ use borrow.Author.Tests.{leb-true, eqb-true}
 use Rattle.laws.specs.Checks.{Check, judged, all}
 use Rattle.laws.proofs.Tests.{and-both, within-is, never}
 use Rattle.laws.proofs.Checks.{AllPass, Judged, passed, failed, judge, judged-passed}
-use Rattle.image.specs.declared.cell.Cell.the-variants as Cells
 use Rattle.image.specs.declared.cell.Cell.{Cell}
-use Rattle.image.specs.declared.cell.Named.the-variants as Named′
+use Rattle.image.specs.declared.cell.Cell.the-variants as Cells
 use Rattle.image.specs.declared.cell.Named.{Named}
+use Rattle.image.specs.declared.cell.Named.the-variants as Named′
 use Rattle.image.specs.Cell.{size, extent, isCell, isItem}
 use Rattle.image.specs.Stored.{FitStore}
 use Rattle.image.proofs.Cells.{extent-view}
-use Rattle.rules.specs.declared.rule.Act.the-variants.{Show, Sign, Store}
 use Rattle.rules.specs.declared.rule.Act.{Act}
+use Rattle.rules.specs.declared.rule.Act.the-variants.{Show, Sign, Store}
 use Rattle.rules.specs.declared.rule.Found.the-variants as F
-use Rattle.rules.specs.declared.rule.Long.the-variants.{Is, Rowed}
 use Rattle.rules.specs.declared.rule.Long.{Long}
-use Rattle.rules.specs.declared.rule.Names.the-variants as N
+use Rattle.rules.specs.declared.rule.Long.the-variants.{Is, Rowed}
 use Rattle.rules.specs.declared.rule.Names.{Names}
+use Rattle.rules.specs.declared.rule.Names.the-variants as N
 use Rattle.rules.specs.declared.rule.Rule.{Rule}
-use Rattle.rules.specs.declared.verdict.Verdict.the-variants.{Refused, Accepted}
 use Rattle.rules.specs.declared.verdict.Verdict.{Verdict}
+use Rattle.rules.specs.declared.verdict.Verdict.the-variants.{Refused, Accepted}
 use Rattle.rules.specs.Rules.{Command, byte, rowed, longOk, namedBy, commands, ruleOf}
 use Rattle.rules.specs.Verdict.{triedOn, tried, triedIf, sought, recognised}
 use Rattle.rules.specs.Fits.{Fit, longest, FitAccepted, FitVerdict}

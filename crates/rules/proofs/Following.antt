@@ -6,13 +6,13 @@ use native.Mathlib.Omega.{arith}
 use Rattle.laws.specs.Checks.{Check, judged}
 use Rattle.laws.proofs.Checks.{Judged, passed, failed, judge, judged-passed}
 use Rattle.image.specs.declared.cell.Cell.{Cell}
-use Rattle.image.specs.declared.cell.Named.the-variants as Named′
 use Rattle.image.specs.declared.cell.Named.{Named}
+use Rattle.image.specs.declared.cell.Named.the-variants as Named′
 use Rattle.rules.specs.declared.rule.Act.{Act}
 use Rattle.rules.specs.declared.rule.Found.the-variants as F
 use Rattle.rules.specs.declared.rule.Rule.{Rule}
-use Rattle.rules.specs.declared.verdict.Verdict.the-variants.{Refused, Accepted}
 use Rattle.rules.specs.declared.verdict.Verdict.{Verdict}
+use Rattle.rules.specs.declared.verdict.Verdict.the-variants.{Refused, Accepted}
 use Rattle.rules.specs.Rules.{byte, namedBy, commands, ruleOf}
 use Rattle.rules.specs.Verdict.{triedOn, tried, sought, recognised}
 use Rattle.rules.specs.Fits.{Follows}

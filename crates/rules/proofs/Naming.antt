@@ -9,8 +9,8 @@ use lib.Dec.{ltb, eqb}
 use borrow.Author.Tests.{eqb-true, lt-ltb}
 use Rattle.laws.specs.Checks.{within}
 use Rattle.laws.proofs.Tests.{and-both, within-is}
-use Rattle.image.specs.declared.cell.Cell.the-variants as Cells
 use Rattle.image.specs.declared.cell.Cell.{Cell}
+use Rattle.image.specs.declared.cell.Cell.the-variants as Cells
 use Rattle.image.specs.declared.cell.Named.the-variants as Named′
 use Rattle.image.specs.Cell.{size, extent, isCell, isItem, when, constantsNamed, errorsNamed, isTable, tableNamed, partNamed}
 use Rattle.image.proofs.Indices.{index-below}

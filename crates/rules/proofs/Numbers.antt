@@ -5,12 +5,12 @@ use Prim.Native.Nat.{ℕ, _<_}
 use lib.Dec.{lit<}
 use Rattle.laws.specs.Checks.{Check, judged}
 use Rattle.image.specs.declared.cell.Cell.{Cell}
-use Rattle.image.specs.declared.cell.Named.the-variants as Named′
 use Rattle.image.specs.declared.cell.Named.{Named}
-use Rattle.rules.specs.declared.rule.Found.the-variants as F
+use Rattle.image.specs.declared.cell.Named.the-variants as Named′
 use Rattle.rules.specs.declared.rule.Found.{Found}
-use Rattle.rules.specs.declared.verdict.Verdict.the-variants.{Refused, Accepted}
+use Rattle.rules.specs.declared.rule.Found.the-variants as F
 use Rattle.rules.specs.declared.verdict.Verdict.{Verdict}
+use Rattle.rules.specs.declared.verdict.Verdict.the-variants.{Refused, Accepted}
 use Rattle.rules.specs.Rules.{byte, namedBy, commands, ruleOf}
 use Rattle.rules.specs.Verdict.{triedOn, tried, triedIf, sought, recognised}
 use Rattle.rules.specs.Fits.{IsRefusal, Numbered}

@@ -6,22 +6,22 @@ use Prim.Native.Nat.{ℕ, zero, suc, _+_, _-_, _*_, _%_}
 use lib.ListN.{length, getD, drop}
 use lib.Dec.{ltb, eqb}
 use Rattle.laws.specs.Checks.{within}
-use Rattle.image.specs.declared.cell.Cell.the-variants as Cells
 use Rattle.image.specs.declared.cell.Cell.{Cell}
-use Rattle.image.specs.declared.cell.Named.the-variants as Named′
+use Rattle.image.specs.declared.cell.Cell.the-variants as Cells
 use Rattle.image.specs.declared.cell.Named.{Named}
+use Rattle.image.specs.declared.cell.Named.the-variants as Named′
 use Rattle.image.specs.Cell.{when, constantsNamed, errorsNamed, tableNamed, partNamed}
-use Rattle.rules.specs.declared.rule.Act.the-variants.{Show, Sign, Store}
 use Rattle.rules.specs.declared.rule.Act.{Act}
-use Rattle.rules.specs.declared.rule.Found.the-variants as F
+use Rattle.rules.specs.declared.rule.Act.the-variants.{Show, Sign, Store}
 use Rattle.rules.specs.declared.rule.Found.{Found}
-use Rattle.rules.specs.declared.rule.Long.the-variants.{Is, Rowed}
+use Rattle.rules.specs.declared.rule.Found.the-variants as F
 use Rattle.rules.specs.declared.rule.Long.{Long}
-use Rattle.rules.specs.declared.rule.Names.the-variants as N
+use Rattle.rules.specs.declared.rule.Long.the-variants.{Is, Rowed}
 use Rattle.rules.specs.declared.rule.Names.{Names}
+use Rattle.rules.specs.declared.rule.Names.the-variants as N
 use Rattle.rules.specs.declared.rule.Rule.{Rule}
-use Rattle.rules.specs.declared.rule.Values.the-variants as V′
 use Rattle.rules.specs.declared.rule.Values.{Values}
+use Rattle.rules.specs.declared.rule.Values.the-variants as V′
 
 abbrev pub byte : List ℕ → ℕ → ℕ
 byte c b = getD c (b - 1) 0
