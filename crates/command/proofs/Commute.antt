@@ -12,7 +12,7 @@ use Rattle.image.specs.Cell.{offset, extent}
 use Rattle.image.specs.Stored.{stored, FitStore}
 use Rattle.image.proofs.Cells.{size-some}
 use Rattle.image.proofs.UsableFacts.{Usable}
-use Rattle.image.proofs.Stretches.{own-cell, cell-made, item-made}
+use Rattle.image.proofs.Stretches.{own-cell, cell-made}
 use Rattle.image.proofs.Elsewhere.{extent-fits, stretch-stays, slice-stays, signature-stays, stored-swap}
 use Rattle.rules.specs.declared.rule.Act.{Act}
 use Rattle.rules.specs.declared.rule.Act.the-variants.{Show, Sign, Store}
@@ -30,9 +30,9 @@ module _ (v : Version) (m : List ℕ) (u : Usable v m) (d : Cell) (bs : List ℕ
   after-store Show e c g off =
       let some = size-some e g in
       let f : getD (stored v d bs m) (offset e) 0 ≡ getD m (offset e) 0 =
-      stretch-stays v m u d bs fit e (cell-made e g) off (offset e) (omega arith, omega arith) in
-      rw f (slice-stays v m u d bs fit e (cell-made e g) off (extent e (getD m (offset e) 0)) (extent-fits v m u e g))
-  after-store Sign e c g off = ap two (signature-stays v m u d bs fit e (item-made e g) off v)
+      stretch-stays v m (u .long-is) d bs fit e (cell-made e g) off (offset e) (omega arith, omega arith) in
+      rw f (slice-stays v m (u .long-is) d bs fit e (cell-made e g) off (extent e (getD m (offset e) 0)) (extent-fits v m u e g))
+  after-store Sign e c g off = ap two (signature-stays v m (u .long-is) d bs fit e g off)
   after-store (Store k) e c g off = refl
 
 -- ---- two acts
@@ -50,4 +50,4 @@ module _ (v : Version) (m : List ℕ) (u : Usable v m) where
   leaves-swap (Store k) Show d e c c′ f g n = refl
   leaves-swap (Store k) Sign d e c c′ f g n = refl
   leaves-swap (Store k) (Store j) d e c c′ f g n =
-      stored-swap v m u d e (drop k c) (drop j c′) f g (λ z. n d (own-cell d (f .cell)) .1 (Memᴰ·cast z (own-cell e (g .cell))))
+      stored-swap v m (u .long-is) d e (drop k c) (drop j c′) f g (λ z. n d (own-cell d (f .cell)) .1 (Memᴰ·cast z (own-cell e (g .cell))))

@@ -16,7 +16,7 @@ use Rattle.frame.proofs.Answers.{built-done}
 use Rattle.image.specs.declared.cell.Cell.{Cell}
 use Rattle.image.specs.Version.{Version, current}
 use Rattle.image.specs.Cell.{offset, extent}
-use Rattle.image.specs.Usable.{usable, address}
+use Rattle.image.specs.Usable.{usable}
 use Rattle.image.specs.Signature.{signature}
 use Rattle.image.proofs.UsableFacts.{facts, Usable}
 use Rattle.image.proofs.Elsewhere.{extent-fits}
@@ -24,22 +24,18 @@ use Rattle.rules.specs.declared.rule.Act.{Act}
 use Rattle.rules.specs.declared.rule.Act.the-variants.{Show, Sign, Store}
 use Rattle.rules.specs.declared.verdict.Verdict.{Verdict}
 use Rattle.rules.specs.declared.verdict.Verdict.the-variants.{Refused, Accepted}
-use Rattle.rules.specs.Verdict.{recognised}
-use Rattle.rules.specs.Fits.{Fit, longest, FitAccepted}
-use Rattle.rules.proofs.Fit.{recognised-fits}
+use Rattle.rules.specs.Fits.{Fit, longest, FitAccepted, FitVerdict}
 use Rattle.command.specs.Act.{says}
-use Rattle.command.specs.Reply.{replyOf, replied, sent, Serves}
+use Rattle.command.specs.Reply.{replyOf, done, sent, Serves}
 use Rattle.command.proofs.Doing.{opening}
 
 -- ---- the verdict's cases
 
-module _ (a : ℕ) (c : List ℕ) {v : Verdict} (v-is : v ≡ recognised a c) where
-  pub body-fits : {e : ℕ} {act : Act} {d : Cell} → v ≡ Accepted e act d → FitAccepted e act d c
-  body-fits i = rw (sym v-is ∙ i) at (recognised-fits a c)
+pub body-fits : {r : Verdict} {e : ℕ} {a : Act} {d : Cell} (c : List ℕ) → r ≡ Accepted e a d → FitVerdict r c → FitAccepted e a d c
+body-fits c i f = rw i at f
 
-pub refused-sends : (c m out : List ℕ) {v : Verdict} {n : ℕ} → v ≡ recognised (address m) c → v ≡ Refused n
-    → Serves (sent (replied current c m) out) (record { number = n; len = 0 }) m out
-refused-sends c m out v-is i = rw (sym v-is ∙ i) (record { number-is = refl; len-is = refl; image-is = refl; out-is = sym (lay-none out 0) })
+pub refused-sends : (c m out : List ℕ) {r : Verdict} {n : ℕ} → r ≡ Refused n → Serves (sent (done current r c m) out) (record { number = n; len = 0 }) m out
+refused-sends c m out i = rw i (record { number-is = refl; len-is = refl; image-is = refl; out-is = sym (lay-none out 0) })
 
 -- ---- an accepted body's reply
 

@@ -8,11 +8,9 @@ use Rattle.output.specs.declared.answer.Answer.{Answer}
 use Rattle.frame.specs.Built.{frameOf}
 use Rattle.image.specs.declared.cell.Cell.{Cell}
 use Rattle.image.specs.Version.{Version}
-use Rattle.image.specs.Usable.{address}
 use Rattle.rules.specs.declared.rule.Act.{Act}
 use Rattle.rules.specs.declared.verdict.Verdict.{Verdict}
 use Rattle.rules.specs.declared.verdict.Verdict.the-variants.{Refused, Accepted}
-use Rattle.rules.specs.Verdict.{recognised}
 use Rattle.command.specs.Act.{says, leaves, reads, writes}
 
 -- a number, the reply's characters, and the image. A refusal has no reply and leaves the image
@@ -32,10 +30,6 @@ abbrev pub done : Version → Verdict → List ℕ → List ℕ → Outcome
 done v (Refused n) c m = refusal n m
 done v (Accepted e a d) c m = record { number = 0; reply = frameOf (replyOf v e a d c m); image = leaves v a d c m }
 
--- a body, on a usable image
-abbrev pub replied : Version → List ℕ → List ℕ → Outcome
-replied v c m = done v (recognised (address m) c) c m
-
 -- ---- what is reported, and left in both lent buffers
 
 pub record BuffersAfter : Type 0 where
@@ -47,6 +41,10 @@ pub record BuffersAfter : Type 0 where
 -- the reply stands at the start of the output; the rest is unchanged. Of a refusal that is length 0 and the whole output
 abbrev pub sent : Outcome → List ℕ → BuffersAfter
 sent o out = record { number = o .number; len = length (o .reply); image = o .image; out = lay out 0 (o .reply) }
+
+-- the reply, as it stands in the output
+abbrev pub replyIn : BuffersAfter → List ℕ
+replyIn a = take (a .len) (a .out)
 
 -- a function that returned r and left an image and an output has done what a says
 pub record Serves (a : BuffersAfter) (r : Answer) (left : List ℕ) (written : List ℕ) : Type 0 where

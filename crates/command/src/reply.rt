@@ -12,8 +12,8 @@ ghost use lib.ListN.{length};
 ghost use Rattle.image.specs.Version.{current};
 ghost use Rattle.image.specs.Usable.{usable};
 ghost use Rattle.rules.specs.declared.verdict.Verdict.the-variants.{Accepted};
-ghost use Rattle.rules.specs.Fits.{FitAccepted};
-ghost use Rattle.command.specs.Reply.{done, replied, sent, Serves};
+ghost use Rattle.rules.specs.Fits.{FitAccepted, FitVerdict};
+ghost use Rattle.command.specs.Reply.{done, sent, Serves};
 
 // The reply is laid down before the image changes. Its array comes in, so that its list stays a name in the proof.
 fn accept(
@@ -35,12 +35,12 @@ fn accept(
     frame::build(&reply[..n], out)
 }
 
-// A body without its checksum, on a usable image.
-pub fn reply_to(body: &[u8], m: &mut [u8], out: &mut [u8]) -> Answer
-    requires { ⌜ (usable current (now m) ≡ true) × (length (now body) ≤ 132) × (269 ≤ length (now out)) ⌝ }
-    ensures { λ r. ⌜ Serves (sent (replied current (now (body .entry)) (now (m .entry))) (now (out .entry))) r (now (m .exit)) (now (out .exit)) ⌝ }
+// By its verdict, a body without its checksum, on a usable image.
+pub fn reply_to(verdict: Verdict, body: &[u8], m: &mut [u8], out: &mut [u8]) -> Answer
+    requires { ⌜ FitVerdict verdict (now body) × (usable current (now m) ≡ true) × (269 ≤ length (now out)) ⌝ }
+    ensures { λ r. ⌜ Serves (sent (done current verdict (now (body .entry)) (now (m .entry))) (now (out .entry))) r (now (m .exit)) (now (out .exit)) ⌝ }
 {
-    match rules::recognise(body, m[5]) {
+    match verdict {
         Verdict::Refused(n) => Answer { number: n, len: 0 },
         Verdict::Accepted(echo, act, cell) => { accept(echo, act, cell, body, m, out, [0u8; 132]) }
     }

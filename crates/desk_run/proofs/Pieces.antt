@@ -41,7 +41,7 @@ pub printed-short : (v : Version) (m p : List ℕ) → length (printed v m p) �
 unfolding printed
 printed-short v m p =
     let a = served heard v p m (zeros 269) in
-    line-short (a .number) (a .len) (a .out) (number-short heard v p m (zeros 269) heard-lawful) (served-long v p m (zeros 269) ∙ length-zeros 269)
+    line-short (a .number) (a .len) (a .out) (number-short heard heard-lawful v p m (zeros 269)) (served-long v p m (zeros 269) ∙ length-zeros 269)
 
 -- so a line that was laid where 300 bytes were left has not run over
 pub laid-fits : (v : Version) (m p : List ℕ) (at at′ : ℕ) (text text′ : List ℕ) → Laid at at′ text text′ (printed v m p)
@@ -54,7 +54,7 @@ module _ (v : Version) (p m : List ℕ) (r : Answer) (m′ out : List ℕ) (s : 
   reply-short = rw (s .len-is) (served-short v p m (zeros 269))
 
   pub reply-number : r .number < 100
-  reply-number = rw (s .number-is) (number-short heard v p m (zeros 269) heard-lawful)
+  reply-number = rw (s .number-is) (number-short heard heard-lawful v p m (zeros 269))
 
   pub reply-long : length out ≡ 269
   reply-long = ap length (s .out-is) ∙ served-long v p m (zeros 269) ∙ length-zeros 269

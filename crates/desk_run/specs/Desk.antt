@@ -4,12 +4,13 @@ use mathlib.Core.List.{List, [], _∷_, _++_}
 use mathlib.Core.Bool.{cond}
 use Prim.Native.Nat.{ℕ, _+_, _≤_, _<_}
 use Prim.Native.String.{String}
-use lib.ListN.{length, take}
+use lib.ListN.{length}
 use lib.Dec.{leb, ltb}
 use Rattle.laws.specs.Bytes.{lay, zeros, codes}
 use Rattle.text.specs.Cut.{pieces}
 use Rattle.image.specs.Version.{Version, current}
 use Rattle.image.specs.Fresh.{fresh}
+use Rattle.command.specs.Reply.{replyIn}
 use Rattle.izk.specs.Heard.{heard}
 use Rattle.izk.specs.Block.{served}
 use Rattle.desk_run.specs.declared.turns.Progress.{Progress}
@@ -19,7 +20,7 @@ use Rattle.desk_run.specs.Line.{lineOf}
 
 -- a piece served with an output of its own: what is printed for it, and the image after it
 unfoldable pub printed : Version → List ℕ → List ℕ → List ℕ
-printed v m p = let a = served heard v p m (zeros 269) in lineOf (a .number) (take (a .len) (a .out))
+printed v m p = let a = served heard v p m (zeros 269) in lineOf (a .number) (replyIn a)
 
 unfoldable pub left : Version → List ℕ → List ℕ → List ℕ
 left v m p = served heard v p m (zeros 269) .image

@@ -9,7 +9,7 @@ use native.Mathlib.Omega.{arith}
 use lib.ListN.{length, getD, drop, length-drop}
 use lib.Dec.{leb}
 use borrow.Author.Tests.{lt-ltb, le-ltb, le-leb}
-use Rattle.laws.specs.Checks.{within}
+use Rattle.laws.specs.Checks.{within, all}
 use Rattle.laws.proofs.Tests.{and-both, or-either, within-is, within-in, within-below, within-above}
 use Rattle.laws.proofs.Walks.{next, next2, none-left}
 use Rattle.frame.specs.Digits.{isDigit, allDigits, valueOf, charOf, bytesOf}
@@ -63,18 +63,18 @@ module _ (c : ℕ) where
 -- ---- a list of them
 
 pub digit-at : (s : List ℕ) (i : ℕ) → allDigits s ≡ true → i < length s → isDigit (getD s i 0) ≡ true
-unfolding allDigits
+unfolding all
 digit-at [] i d h = absurd (not-suc-le-zero h)
 digit-at (c ∷ s) zero d h = and-both (isDigit c) (allDigits s) d .0
 digit-at (c ∷ s) (suc i) d h = digit-at s i (and-both (isDigit c) (allDigits s) d .1) (omega arith)
 
 module _ (s : List ℕ) (i : ℕ) where
   pub all-next : (t : Bool) → isDigit (getD s i 0) ≡ t → i < length s → allDigits (drop i s) ≡ (t && allDigits (drop (i + 1) s))
-  unfolding allDigits
+  unfolding all
   all-next t e h = rw (next s i h, e)
 
   pub all-done : length s ≤ i → allDigits (drop i s) ≡ true
-  unfolding allDigits
+  unfolding all
   all-done h = rw (none-left s i h)
 
   pub bytes-next : i + 1 < length s → bytesOf (drop i s) ≡ (16 * valueOf (getD s i 0) + valueOf (getD s (i + 1) 0)) ∷ bytesOf (drop (i + 2) s)

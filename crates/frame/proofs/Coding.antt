@@ -8,6 +8,7 @@ use native.Mathlib.Decide.{decLt}
 use native.Mathlib.Omega.{arith}
 use lib.ListN.{length, getD}
 use borrow.Author.Tests.{le-leb}
+use Rattle.laws.specs.Checks.{all}
 use Rattle.laws.proofs.Tests.{and-both}
 use Rattle.frame.specs.Digits.{isDigit, allDigits, valueOf, charOf, charsOf, bytesOf}
 use Rattle.frame.proofs.Chars.{digit-decimal, digit-letter, digit-is, value-low, value-high, char-low, char-high}
@@ -43,7 +44,7 @@ digit c d = go (digit-is c d)
 -- ---- and so for lists
 
 pub digits-chars : (l : List ℕ) → Bytes l → allDigits (charsOf l) ≡ true
-unfolding allDigits charsOf
+unfolding all charsOf
 digits-chars [] h = refl
 digits-chars (b ∷ l) h =
     let s = h zero in
@@ -58,7 +59,7 @@ bytes-chars (b ∷ l) h =
     rw (half (b / 16) (omega arith) .1, half (b % 16) (omega arith) .1, e, bytes-chars l (λ k. h (suc k)))
 
 pub chars-bytes : (s : List ℕ) → allDigits s ≡ true → length s % 2 ≡ 0 → charsOf (bytesOf s) ≡ s
-unfolding allDigits bytesOf charsOf
+unfolding all bytesOf charsOf
 chars-bytes [] d e = refl
 chars-bytes (x ∷ []) d e = absurd (omega arith)
 chars-bytes (x ∷ (y ∷ s)) d e =

@@ -41,11 +41,11 @@ length-frame c =
 
 -- the five steps of a cursor that lay one
 module _ (c o o₁ o₂ o₃ o₄ o₅ : List ℕ) (k₁ k₂ k₃ k₄ k₅ s : ℕ) (sum : s ≡ checksumOf c) where
-  parts : (((58 ∷ charsOf c) ++ charsOf (s ∷ [])) ++ (13 ∷ [])) ++ (10 ∷ []) ≡ frameOf c
+  joined : (((58 ∷ charsOf c) ++ charsOf (s ∷ [])) ++ (13 ∷ [])) ++ (10 ∷ []) ≡ frameOf c
   unfolding frameOf
-  parts = rw (sum, chars-append) (append-assoc (58 ∷ (charsOf c ++ charsOf (checksumOf c ∷ []))) (13 ∷ []) (10 ∷ []))
+  joined = rw (sum, chars-append) (append-assoc (58 ∷ (charsOf c ++ charsOf (checksumOf c ∷ []))) (13 ∷ []) (10 ∷ []))
 
   pub frame-laid : Laid 0 k₁ o o₁ (58 ∷ []) → Laid k₁ k₂ o₁ o₂ (charsOf c) → Laid k₂ k₃ o₂ o₃ (charsOf (s ∷ []))
       → Laid k₃ k₄ o₃ o₄ (13 ∷ []) → Laid k₄ k₅ o₄ o₅ (10 ∷ []) → Laid 0 k₅ o o₅ (frameOf c)
   frame-laid first body check cr lf =
-      rw (← parts) (laid-then _ _ _ _ _ _ _ _ (laid-then _ _ _ _ _ _ _ _ (laid-then _ _ _ _ _ _ _ _ (laid-then _ _ _ _ _ _ _ _ first body) check) cr) lf)
+      rw (← joined) (laid-then _ _ _ _ _ _ _ _ (laid-then _ _ _ _ _ _ _ _ (laid-then _ _ _ _ _ _ _ _ (laid-then _ _ _ _ _ _ _ _ first body) check) cr) lf)

@@ -1,18 +1,17 @@
 -- Characters and bytes, and the checksum (document 01, "The frame"). Assumes nothing.
 use mathlib.Core.List.{List, [], _∷_}
-use mathlib.Core.Bool.{Bool, true, cond, _&&_, _||_}
+use mathlib.Core.Bool.{Bool, cond, _||_}
 use Prim.Native.Nat.{ℕ, _+_, _-_, _*_, _/_, _%_}
 use lib.Dec.{ltb}
 use Rattle.laws.specs.Bytes.{sumOf}
-use Rattle.laws.specs.Checks.{within}
+use Rattle.laws.specs.Checks.{within, all}
 
 -- a digit is one of 48..57 and 65..70. 001's own decoding rule has no such test and would read 58..64 as something
 unfoldable pub isDigit : ℕ → Bool
 isDigit c = within 48 57 c || within 65 70 c
 
-unfoldable pub allDigits : List ℕ → Bool
-allDigits [] = true
-allDigits (c ∷ cs) = isDigit c && allDigits cs
+abbrev pub allDigits : List ℕ → Bool
+allDigits cs = all isDigit cs
 
 -- what a digit stands for
 unfoldable pub valueOf : ℕ → ℕ

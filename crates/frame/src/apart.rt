@@ -6,7 +6,7 @@ ghost use Rattle.output.specs.Output.{Does};
 ghost use Rattle.frame.specs.Apart.{apart, endsOk};
 use crate::digits::all_digits;
 use crate::digits::bytes_of;
-use crate::digits::checksum;
+use crate::digits::checksum_of;
 use output::Answer;
 use output::Cursor;
 
@@ -49,7 +49,7 @@ pub fn take_apart(frame: &[u8], out: &mut [u8]) -> Answer
     }
     let work = bytes_of(chars, [0u8; 133]);
     let k = (n - 3) / 2 - 1;
-    let sum = checksum(&work[..k]);
+    let sum = checksum_of(&work[..k]);
     if work[k] != sum {
         return Answer { number: 6, len: 0 };
     }

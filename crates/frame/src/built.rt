@@ -7,7 +7,7 @@ ghost use Rattle.output.specs.Output.{Does};
 ghost use Rattle.frame.specs.Digits.{charsOf};
 ghost use Rattle.frame.specs.Built.{built};
 use crate::digits::char_of;
-use crate::digits::checksum;
+use crate::digits::checksum_of;
 use output::Answer;
 use output::Cursor;
 
@@ -47,7 +47,7 @@ pub fn build(contents: &[u8], out: &mut [u8]) -> Answer
     if out.len() < 2 * n + 5 {
         return Answer { number: 2, len: 0 };
     }
-    let sum = checksum(contents);
+    let sum = checksum_of(contents);
     let start = Cursor { at: 0 };
     let body = start.put(out, 58);
     let check = put_chars(body, out, contents);

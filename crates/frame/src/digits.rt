@@ -35,7 +35,7 @@ pub(crate) fn all_digits(s: &[u8]) -> bool
     true
 }
 
-fn value(c: u8) -> u8
+fn value_of(c: u8) -> u8
     requires { ⌜ isDigit c ≡ true ⌝ }
     ensures { λ r. ⌜ (r ≡ valueOf c) × (r < 16) ⌝ }
 {
@@ -57,14 +57,14 @@ pub(crate) fn bytes_of(s: &[u8], mut work: [u8; 133]) -> [u8; 133]
     let mut i = 0;
     let mut k = 0;
     while i + 1 < s.len() {
-        work[k] = 16 * value(s[i]) + value(s[i + 1]);
+        work[k] = 16 * value_of(s[i]) + value_of(s[i + 1]);
         i += 2;
         k += 1;
     }
     work
 }
 
-pub(crate) fn checksum(s: &[u8]) -> u8
+pub(crate) fn checksum_of(s: &[u8]) -> u8
     requires { ⌜ length (now s) ≤ 65536 ⌝ }
     ensures { λ r. ⌜ r ≡ checksumOf (now (s .entry)) ⌝ }
 {

@@ -1,7 +1,8 @@
 -- The cells lie in rising order: a byte belongs to one cell at most. Assumes nothing.
 use mathlib.Core.Path.{_≡_, refl, sym, ap, _∙_, subst}
 use mathlib.Core.Logic.{_⊎_, inl, inr}
-use mathlib.Core.List.{List, [], _∷_, _++_, List·Memᴰ, List·Memᴰ·head, List·Memᴰ·tail, List·Memᴰ·cases-cons, List·Memᴰ·not-nil, Memᴰ·append-left, Memᴰ·append-right}
+use mathlib.Core.List.{List, [], _∷_, _++_, List·Memᴰ, List·Memᴰ·head, List·Memᴰ·tail, List·Memᴰ·cases-cons, List·Memᴰ·not-nil, Memᴰ·append-left}
+use mathlib.Core.List.{Memᴰ·append-right}
 use mathlib.Core.Bool.{true}
 use Prim.Native.Nat.{ℕ, zero, suc, _+_, _-_, _*_, _/_, _≤_, _<_}
 use native.Mathlib.Decide.{ℕ-discrete}
@@ -83,6 +84,13 @@ parts-mem k p i (suc n) h a b = go (ℕ-discrete k i) (λ l. parts-mem k p (suc 
         Memᴰ·append-left (partsFrom (suc i) n) (subst (λ (j : ℕ). List·Memᴰ (Part k p) (run (Part j) 0 11)) e here)
     go (no e) ih = Memᴰ·append-right (run (Part i) 0 11) (ih (omega arith))
 
+-- the numbers of a part
+pub part-numbers : (k p : ℕ) → isCell (Part k p) ≡ true → (k < 16) × (p < 11)
+part-numbers k p h = let b = and-both (ltb k 16) (ltb p 11) h in (ltb-true k 16 (b .0), ltb-true p 11 (b .1))
+
+pub part-few : {d : Cell} {k p : ℕ} → isCell d ≡ true → d ≡ Part k p → (k < 16) × (p < 11)
+part-few {k} {p} h e = part-numbers k p (rw e at h)
+
 pub listed : (c : Cell) → isCell c ≡ true → List·Memᴰ c cells
 unfolding cells
 listed Mask h = List·Memᴰ·head refl
@@ -96,10 +104,10 @@ listed (Errors e) h =
     List·Memᴰ·tail (List·Memᴰ·tail (List·Memᴰ·tail (Memᴰ·append-right (run Constants 0 8)
     (Memᴰ·append-left (partsFrom 0 16) (run-mem Errors e 0 8 (omega arith) (omega arith))))))
 listed (Part k p) h =
-    let b = and-both (ltb k 16) (ltb p 11) h in
-    let l = ltb-true k 16 (b .0) in
+    let b = part-numbers k p h in
+    let l = b .0 in
     List·Memᴰ·tail (List·Memᴰ·tail (List·Memᴰ·tail (Memᴰ·append-right (run Constants 0 8) (Memᴰ·append-right (run Errors 0 8)
-    (parts-mem k p 0 16 (ltb-true p 11 (b .1)) (omega arith) (omega arith))))))
+    (parts-mem k p 0 16 (b .1) (omega arith) (omega arith))))))
 listed (Table k) h = absurd (never h)
 
 -- ---- the laws: a byte belongs to one cell at most; a cell lies behind mark, version and address, inside the image and off every word

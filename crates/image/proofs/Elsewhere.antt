@@ -13,13 +13,13 @@ use Rattle.laws.proofs.Tests.{all-of}
 use Rattle.laws.proofs.Bytes.{In, Disjoint, length-lay, lay-swap, length-padded, slice-same}
 use Rattle.image.specs.declared.cell.Cell.{Cell}
 use Rattle.image.specs.declared.cell.Cell.the-variants.{Errors}
-use Rattle.image.specs.Version.{Version, v1}
-use Rattle.image.specs.Cell.{offset, size, extent, isCell, cellsOf}
+use Rattle.image.specs.Version.{Version, v1, imageLength}
+use Rattle.image.specs.Cell.{offset, size, extent, isCell, isItem, cellsOf}
 use Rattle.image.specs.Signature.{fullSum, signature}
 use Rattle.image.specs.Stored.{touchedAll, touches, stored, FitStore}
 use Rattle.image.proofs.Cells.{one-cell, placed, covered, extent-view}
 use Rattle.image.proofs.UsableFacts.{Usable}
-use Rattle.image.proofs.Stretches.{cell-made, only-cell}
+use Rattle.image.proofs.Stretches.{cell-made, item-made, only-cell}
 use Rattle.image.proofs.Touches.{Own, touched-lay, touched-swap, touches-agree, no-touch-in-cell, touches-room}
 use Rattle.image.proofs.Stores.{stored-length, outside}
 
@@ -31,22 +31,25 @@ extent-fits v m u d h = go (extent-view d)
     go (inl f) = rw f (omega arith)
     go (inr (e, f)) = let l = ltb-true e 8 (rw f at h) in rw f (omega (arith, u .counts e l))
 
-module _ (v : Version) (m : List ℕ) (u : Usable v m) (d : Cell) (bs : List ℕ) (fit : FitStore d bs)
+module _ (v : Version) (m : List ℕ) (long : length m ≡ imageLength v) (d : Cell) (bs : List ℕ) (fit : FitStore d bs)
     (e : Cell) (made : all isCell (cellsOf e) ≡ true) (out : ¬ List·Memᴰ d (cellsOf e)) where
   pub stretch-stays : (i : ℕ) → In (offset e) (size e) i → getD (stored v d bs m) i 0 ≡ getD m i 0
   stretch-stays i a =
       let (x, has, there) = covered e i a in
       let cell = all-of isCell made has in
-      outside v d bs fit m (u .long-is) i (λ b. out (Memᴰ·cast (one-cell d x (fit .cell) cell i b there) has)) (placed v x cell .words i there)
+      outside v d bs fit m long i (λ b. out (Memᴰ·cast (one-cell d x (fit .cell) cell i b there) has)) (placed v x cell .words i there)
 
   pub slice-stays : (n : ℕ) → n ≤ size e → slice (offset e) n (stored v d bs m) ≡ slice (offset e) n m
   slice-stays n l =
-      slice-same (stored v d bs m) m (offset e) n (stored-length v d bs fit m (u .long-is) ∙ sym (u .long-is))
+      slice-same (stored v d bs m) m (offset e) n (stored-length v d bs fit m long ∙ sym long)
       (λ i a. stretch-stays i (a .0, omega arith))
 
-  pub signature-stays : (w : Version) → signature w e (stored v d bs m) ≡ signature w e m
-  unfolding fullSum
-  signature-stays v1 = ap (λ (l : List ℕ). sumOf l % 65536) (slice-stays (size e) (omega arith))
+-- a signature stays where its item does not hold the stored cell
+pub signature-stays : (v : Version) (m : List ℕ) → length m ≡ imageLength v → (d : Cell) (bs : List ℕ) → FitStore d bs
+    → (e : Cell) → isItem e ≡ true → ¬ List·Memᴰ d (cellsOf e) → signature v e (stored v d bs m) ≡ signature v e m
+unfolding fullSum
+signature-stays v1 m long d bs fit e item out =
+    ap (λ (l : List ℕ). sumOf l % 65536) (slice-stays v1 m long d bs fit e (item-made e item) out (size e) (omega arith))
 
 -- ---- two stores
 
@@ -54,14 +57,14 @@ module _ (v : Version) (m : List ℕ) (u : Usable v m) (d : Cell) (bs : List ℕ
 laid-in : {d : Cell} {bs : List ℕ} → FitStore d bs → {i : ℕ} → In (offset d) (length (padded (size d) bs)) i → In (offset d) (size d) i
 laid-in {d} {bs} f a = (a .0, rw (length-padded (size d) bs (f .room)) at (a .1))
 
-module _ (v : Version) (m : List ℕ) (u : Usable v m) where
+module _ (v : Version) (m : List ℕ) (long : length m ≡ imageLength v) where
   -- and lie off every word
   laid-off : (c d : Cell) (bs cs : List ℕ) → FitStore c bs → FitStore d cs → (i : ℕ) → In (offset c) (length (padded (size c) bs)) i → ¬ Own (touches v d) i
   laid-off c d bs cs f g i a = no-touch-in-cell v c d (f .cell) (g .cell) i (laid-in f a)
 
   -- a cell finds its old bytes whether or not another was stored before
   old-stays : (c d : Cell) (bs cs : List ℕ) → FitStore c bs → FitStore d cs → c ≢ d → slice (offset d) (size d) (stored v c bs m) ≡ slice (offset d) (size d) m
-  old-stays c d bs cs f g n = slice-stays v m u c bs f d (cell-made d (g .cell)) (λ h. n (only-cell d c (g .cell) h)) (size d) (omega arith)
+  old-stays c d bs cs f g n = slice-stays v m long c bs f d (cell-made d (g .cell)) (λ h. n (only-cell d c (g .cell) h)) (size d) (omega arith)
 
   pub stored-swap : (c d : Cell) (bs cs : List ℕ) → FitStore c bs → FitStore d cs → c ≢ d → stored v d cs (stored v c bs m) ≡ stored v c bs (stored v d cs m)
   unfolding stored
@@ -73,11 +76,11 @@ module _ (v : Version) (m : List ℕ) (u : Usable v m) where
       let S = touches v c in
       let T = touches v d in
       let both = lay (lay m (offset c) X) (offset d) Y in
-      let long = length-lay (lay m (offset c) X) (offset d) Y ∙ length-lay m (offset c) X ∙ u .long-is in
+      let whole = length-lay (lay m (offset c) X) (offset d) Y ∙ length-lay m (offset c) X ∙ long in
       let before = touched-lay A X S (lay m (offset c) X) (offset d) Y (laid-off d c cs bs g f) in
       let behind = touched-lay B Y T (lay m (offset d) Y) (offset c) X (laid-off c d bs cs f g) in
       let off : Disjoint (offset c) (length X) (offset d) (length Y) = (λ i x y. n (one-cell c d (f .cell) (g .cell) i (laid-in f x) (laid-in g y))) in
       ap₂ (λ (l k : List ℕ). touchedAll l Y T k) (old-stays c d bs cs f g n) before
-      ∙ touched-swap B Y A X T S both (touches-agree v d c) (touches-room v d both (g .cell) long)
+      ∙ touched-swap B Y A X T S both (touches-agree v d c) (touches-room v d both (g .cell) whole)
       ∙ ap (λ (l : List ℕ). touchedAll A X S (touchedAll B Y T l)) (lay-swap m (offset c) X (offset d) Y off)
       ∙ ap₂ (λ (l k : List ℕ). touchedAll l X S k) (sym (old-stays d c cs bs g f (λ e. n (sym e)))) (sym behind)

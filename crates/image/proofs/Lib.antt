@@ -1,7 +1,7 @@
 pub mod Cells
 pub mod UsableFacts
 pub mod Indices
-pub mod Words
+pub mod Masks
 pub mod Missing
 pub mod FreshImage
 pub mod OneOutcome

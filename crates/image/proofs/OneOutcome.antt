@@ -1,4 +1,4 @@
--- The promises leave one outcome. Assumes nothing.
+-- The promises leave one outcome: each is an equation, or two. Assumes nothing.
 use mathlib.Core.Path.{_≡_, sym, _∙_}
 use mathlib.Core.List.{List}
 use Prim.Native.Nat.{ℕ}

@@ -7,11 +7,9 @@ use native.Mathlib.Decide.{decLt, decLe}
 use native.Mathlib.Omega.{arith}
 use lib.ListN.{length, getD, take}
 use lib.Seq.{take-length}
-use lib.Dec.{ltb}
-use borrow.Author.Tests.{ltb-true, lt-ltb}
+use borrow.Author.Tests.{lt-ltb}
 use Rattle.laws.specs.Bytes.{slice, lay, padded}
 use Rattle.laws.specs.Bits.{bit, withBit}
-use Rattle.laws.proofs.Tests.{and-both}
 use Rattle.laws.proofs.Bytes.{In, length-lay, lay-out, lay-in, slice-same, slice-lay, length-padded, take-padded, padded-at, word-out}
 use Rattle.laws.proofs.Bits.{bit-set, bit-kept, with-bit-small}
 use Rattle.image.specs.declared.cell.Cell.{Cell}
@@ -20,7 +18,7 @@ use Rattle.image.specs.Version.{Version, imageLength}
 use Rattle.image.specs.Cell.{offset, size, extent}
 use Rattle.image.specs.Words.{words, wordOffset, tableWord}
 use Rattle.image.specs.Stored.{touchedAll, touches, stored, FitStore}
-use Rattle.image.proofs.Cells.{one-cell, placed, InSpans, word-inside, table-words, extent-view, size-some}
+use Rattle.image.proofs.Cells.{one-cell, placed, InSpans, word-inside, table-words, extent-view, size-some, part-few}
 use Rattle.image.proofs.UsableFacts.{Usable, mark-same, address-same}
 use Rattle.image.proofs.Touches.{Own, touched-length, touched-byte, touches-low, no-touch-in-cell, WordAfter, own-word, word-after}
 
@@ -77,7 +75,7 @@ module _ (v : Version) (d : Cell) (bs : List ℕ) (fit : FitStore d bs) (m : Lis
   pub own-bit : (k p : ℕ) → d ≡ Part k p → bit (tableWord (stored v d bs m) k) p ≡ 1
   unfolding stored
   own-bit k p e =
-      let l = ltb-true k 16 (and-both (ltb k 16) (ltb p 11) (rw e at (fit .cell)) .0) in
+      let l = part-few (fit .cell) e .0 in
       let old = slice (offset d) (size d) m in
       ap (λ (c : Cell). bit (tableWord (touchedAll old new (touches v c) laid) k) p) e
       ∙ rw (own-word old new laid v k p l laid-length) (bit-set (tableWord laid k) p)
@@ -123,12 +121,14 @@ module _ (v : Version) (d : Cell) (bs : List ℕ) (fit : FitStore d bs) (m : Lis
       ∙ ap (λ (k : ℕ). take k new) (sym full)
       ∙ take-length new
 
-  -- ---- a usable image stays usable
+  -- ---- mark, version and address stay, and a usable image stays usable
+
+  pub head-stays : (i : ℕ) → i < 6 → getD (stored v d bs m) i 0 ≡ getD m i 0
+  head-stays i l =
+      let p = placed v d (fit .cell) .low in
+      outside i (λ a. absurd (omega arith)) (λ a. let w = word-inside v i a in absurd (omega arith))
 
   module _ (u : Usable v m) where
-    pub head-stays : (i : ℕ) → i < 6 → getD (stored v d bs m) i 0 ≡ getD m i 0
-    head-stays i l = let p = placed v d (fit .cell) .low in outside i (λ a. absurd (omega arith)) (λ a. let w = word-inside v i a in absurd (omega arith))
-
     -- the row count of the stored error table, or of one that stayed
     count-stays : (e : ℕ) → e < 8 → getD (stored v d bs m) (offset (Errors e)) 0 ≤ 21
     count-stays e l = go (Dec·and (decLe (offset d) (offset (Errors e))) (decLt (offset (Errors e)) (offset d + size d)))
@@ -140,7 +140,9 @@ module _ (v : Version) (d : Cell) (bs : List ℕ) (fit : FitStore d bs) (m : Lis
             let rows : extent d (getD bs 0 0) ≡ 1 + 3 * getD bs 0 0 = ap (λ (c : Cell). extent c (getD bs 0 0)) same in
             let big : size d ≡ 64 = ap size same in
             rw (← here, first-byte) (omega (arith, fit .counts, fit .room))
-        go (no a) = rw (outside (offset (Errors e)) a (placed v (Errors e) (lt-ltb e 8 l) .words (offset (Errors e)) (omega arith, omega arith))) (u .counts e l)
+        go (no a) =
+            let off = placed v (Errors e) (lt-ltb e 8 l) .words (offset (Errors e)) (omega arith, omega arith) in
+            rw (outside (offset (Errors e)) a off) (u .counts e l)
 
     word-stays : (k : ℕ) → k < 16 → tableWord (stored v d bs m) k ≤ 2047
     word-stays k l = go (word-stored k l)
@@ -155,7 +157,7 @@ module _ (v : Version) (d : Cell) (bs : List ℕ) (fit : FitStore d bs) (m : Lis
     store-usable =
         record {
           long-is = stored-length;
-          mark = mark-same v m (stored v d bs m) head-stays ∙ u .mark;
+          mark = mark-same v m (stored v d bs m) (λ i l. head-stays i (omega arith)) ∙ u .mark;
           address-is = address-same m (stored v d bs m) (head-stays 5 (omega arith)) ∙ u .address-is;
           counts = count-stays;
           words = word-stays;

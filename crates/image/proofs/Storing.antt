@@ -2,21 +2,19 @@
 use mathlib.Core.Path.{_≡_, refl, ap, _∙_}
 use mathlib.Core.Bool.{true}
 use mathlib.Core.List.{List, [], _∷_}
-use Prim.Native.Nat.{ℕ, _+_, _-_, _%_, _≤_, _<_}
+use Prim.Native.Nat.{ℕ, _+_, _-_, _%_, _≤_}
 use native.Mathlib.Omega.{arith}
 use types.Run.{OneOf, miss}
 use denote.Enum.Declared.{tagOf}
 use lib.ListN.{length, take, drop, length-take}
-use borrow.Author.Tests.{ltb-true}
 use Rattle.laws.specs.Bytes.{slice, lay, zeros, padded, sumOf}
-use Rattle.laws.proofs.Tests.{and-both}
 use Rattle.laws.proofs.Bytes.{lay-trans, slice-is}
 use Rattle.image.specs.declared.cell.Cell.{Cell}
 use Rattle.image.specs.declared.cell.Cell.the-variants.{Mask, Mode, Clock, Constants, Errors, Part, Table}
 use Rattle.image.specs.Version.{current, imageLength}
 use Rattle.image.specs.Cell.{offset, size, isCell, isItem}
 use Rattle.image.specs.Signature.{fullSum, signature}
-use Rattle.image.specs.Stored.{touchedAll, bits, touches, stored, FitStore}
+use Rattle.image.specs.Stored.{touchedAll, bits, touches, stored}
 use Rattle.image.proofs.Cells.{placed}
 use Rattle.image.proofs.cell.Cell.{the-type}
 use Rattle.image.proofs.Stretches.{item-inside}
@@ -33,11 +31,6 @@ no-bit (Errors e) m h = refl
 no-bit (Part k p) m h = absurd (miss (0 ∷ 1 ∷ 2 ∷ 3 ∷ 4 ∷ 6 ∷ []) 5 tt h)
 no-bit (Table k) m h = refl
 
-pub part-few : {d : Cell} {k p : ℕ} → isCell d ≡ true → d ≡ Part k p → (k < 16) × (p < 11)
-part-few {d} {k} {p} h e =
-    let b = and-both _ _ (rw e at h) in
-    (ltb-true k 16 (b .0), ltb-true p 11 (b .1))
-
 -- it is all that is touched, whatever the cell's bytes were and are
 bits-alone : (old new : List ℕ) (d : Cell) (m : List ℕ) → touchedAll [] [] (bits d) m ≡ touchedAll old new (touches current d) m
 bits-alone old new Mask m = refl
@@ -50,8 +43,8 @@ bits-alone old new (Table k) m = refl
 
 -- ---- the cell's bytes
 
-pub store-room : {d : Cell} {bytes : List ℕ} → FitStore d bytes → {a : ℕ} → a ≡ offset d → (length bytes ≤ size d) × (a + size d ≤ imageLength current)
-store-room {d} f a-is = (f .room, omega (arith, placed current d (f .cell) .high))
+pub store-room : (d : Cell) → isCell d ≡ true → {a : ℕ} → a ≡ offset d → a + size d ≤ imageLength current
+store-room d h a-is = omega (arith, placed current d h .high)
 
 module _ (d : Cell) (m bytes : List ℕ) {m₁ m₂ : List ℕ} {a k n : ℕ} (a-is : a ≡ offset d) (n-is : n ≡ size d)
     (past : k ≡ a + length bytes) (laid : m₁ ≡ lay m a bytes) where
@@ -71,6 +64,6 @@ module _ (d : Cell) (m : List ℕ) (h : isItem d ≡ true) {a n : ℕ} (a-is : a
   pub item-few : length (take (a + n - a) (drop a m)) ≤ 65536
   item-few = omega (arith, item-room, length-take (a + n - a) (drop a m))
 
-  pub signed-is : sumOf (take (a + n - a) (drop a m)) % 65536 ≡ signature current d m
+  pub summed-is : sumOf (take (a + n - a) (drop a m)) % 65536 ≡ signature current d m
   unfolding fullSum
-  signed-is = ap (λ (l : List ℕ). sumOf l % 65536) (slice-is a (a + n) n m (omega arith) ∙ rw (a-is, n-is))
+  summed-is = ap (λ (l : List ℕ). sumOf l % 65536) (slice-is a (a + n) n m (omega arith) ∙ rw (a-is, n-is))

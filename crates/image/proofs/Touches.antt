@@ -7,11 +7,8 @@ use Prim.Native.Nat.{ℕ, _+_, _≤_, _<_}
 use native.Mathlib.Decide.{ℕ-discrete}
 use native.Mathlib.Omega.{arith}
 use lib.ListN.{length, getD}
-use lib.Dec.{ltb}
-use borrow.Author.Tests.{ltb-true}
 use Rattle.laws.specs.Bytes.{lay, two, wordAt}
 use Rattle.laws.specs.Bits.{withBit}
-use Rattle.laws.proofs.Tests.{and-both}
 use Rattle.laws.proofs.Bytes.{In, Disjoint, length-lay, lay-out, lay-swap, lay-over, length-two, word-two, word-out}
 use Rattle.laws.proofs.Bits.{with-bit-swap}
 use Rattle.image.specs.declared.cell.Cell.{Cell}
@@ -20,7 +17,7 @@ use Rattle.image.specs.Version.{Version, v1, imageLength}
 use Rattle.image.specs.Cell.{isCell, offset, size}
 use Rattle.image.specs.Words.{words, wordOffset, tableWord}
 use Rattle.image.specs.Stored.{Touch, touched, touchedAll, bitOf, bits, touches}
-use Rattle.image.proofs.Cells.{InSpans, word-inside, table-words, table-word-inside, placed}
+use Rattle.image.proofs.Cells.{InSpans, word-inside, table-words, table-word-inside, placed, part-numbers}
 
 -- ---- one touch
 
@@ -167,7 +164,7 @@ bits-low d i = go (bit-view d)
   where
     go : {d : Cell} {ts : List Touch} → Bit d ts → isCell d ≡ true → Own ts i → (k : ℕ) × (k < 16) × In (wordOffset k) 2 i
     go no-bit h w = absurd w
-    go (part-bit {k} {p}) h (inl w) = (k, ltb-true k 16 (and-both (ltb k 16) (ltb p 11) h .0), w)
+    go (part-bit {k} {p}) h (inl w) = (k, part-numbers k p h .0, w)
     go (part-bit {k} {p}) h (inr w) = absurd w
 
 -- ---- all touches of a version
@@ -212,9 +209,8 @@ module _ (o n m : List ℕ) where
           → WordAfter d j (tableWord m j) (tableWord (touchedAll o n ts m) j)
       go no-bit h l = inl refl
       go (part-bit {k} {p}) h l =
-          let b = and-both (ltb k 16) (ltb p 11) h in
-          let a = ltb-true k 16 (b .0) in
-          of-part k p a (ltb-true p 11 (b .1)) (l k a) (ℕ-discrete k j)
+          let b = part-numbers k p h in
+          of-part k p (b .0) (b .1) (l k (b .0)) (ℕ-discrete k j)
 
   pub word-after : (v : Version) (d : Cell) (j : ℕ) → isCell d ≡ true → length m ≡ imageLength v
       → WordAfter d j (tableWord m j) (tableWord (touchedAll o n (touches v d) m) j)

@@ -43,7 +43,7 @@ usable-of v m u =
     rw (eq-eqb _ _ (u .long-is), u .mark, u .address-is, c, w)
 
 -- the mark and the version are the first five bytes, the address the sixth
-pub mark-same : (v : Version) (m m′ : List ℕ) → ((i : ℕ) → i < 6 → getD m′ i 0 ≡ getD m i 0) → markOk v m′ ≡ markOk v m
+pub mark-same : (v : Version) (m m′ : List ℕ) → ((i : ℕ) → i < 5 → getD m′ i 0 ≡ getD m i 0) → markOk v m′ ≡ markOk v m
 unfolding markOk
 mark-same v m m′ h = rw (h 0 (omega arith), h 1 (omega arith), h 2 (omega arith), h 3 (omega arith), h 4 (omega arith))
 

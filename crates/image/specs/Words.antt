@@ -14,13 +14,13 @@ pub record Span : Type 0 where
   pub from : ℕ
   pub count : ℕ
 
--- all words of a version; none of them lies in a cell. Sixteen words, one a table, from 17 on
-abbrev pub words : Version → List Span
-words v1 = record { from = 17; count = 32 } ∷ []
-
--- the word of the table that stands k-th in the image, from 0
+-- where the word of the table stands that is k-th in the image, from 0
 abbrev pub wordOffset : ℕ → ℕ
 wordOffset k = 17 + 2 * k
+
+-- all words of a version; none of them lies in a cell. Those of the sixteen tables, two bytes each
+abbrev pub words : Version → List Span
+words v1 = record { from = wordOffset 0; count = 32 } ∷ []
 
 unfoldable pub tableWord : List ℕ → ℕ → ℕ
 tableWord m k = wordAt m (wordOffset k)

@@ -1,4 +1,5 @@
 // Making a lent buffer a fresh image.
+use crate::version::ADDRESS_OFFSET;
 use crate::version::IMAGE_LENGTH;
 use crate::version::VERSION;
 ghost use mathlib.Core.Path.{_≡_};
@@ -33,6 +34,6 @@ pub fn freshen(m: &mut [u8], address: u8) -> u8
     m[2] = 75;
     m[3] = 0;
     m[4] = VERSION;
-    m[5] = address;
+    m[ADDRESS_OFFSET] = address;
     0
 }

@@ -17,6 +17,7 @@ pub use signature::signature_of;
 pub use signature::sum;
 pub use stored::store;
 pub use usable::is_usable;
+pub use version::ADDRESS_OFFSET;
 pub use version::IMAGE_LENGTH;
 pub use version::VERSION;
 pub use word::has_bit;

@@ -7,10 +7,11 @@ use output::Cursor;
 ghost use mathlib.Core.Bool.{true};
 ghost use mathlib.Core.List.{[]};
 ghost use mathlib.Core.Path.{_≡_};
+ghost use Prim.Native.Nat.{_≤_};
 ghost use lib.ListN.{length};
 ghost use Rattle.image.specs.Version.{current, imageLength};
-ghost use Rattle.image.specs.Cell.{isCell};
-ghost use Rattle.image.specs.Stored.{touchedAll, bits, stored, FitStore};
+ghost use Rattle.image.specs.Cell.{size, isCell};
+ghost use Rattle.image.specs.Stored.{touchedAll, bits, stored};
 
 // A part's bit goes with the part.
 fn put_bits(cell: Cell, m: &mut [u8])
@@ -26,7 +27,7 @@ fn put_bits(cell: Cell, m: &mut [u8])
 
 // Zeros follow the bytes up to the cell's size, so that no old row stays behind a shorter error table.
 pub fn store(cell: Cell, bytes: &[u8], m: &mut [u8])
-    requires { ⌜ FitStore cell (now bytes) × (length (now m) ≡ imageLength current) ⌝ }
+    requires { ⌜ (isCell cell ≡ true) × (length (now bytes) ≤ size cell) × (length (now m) ≡ imageLength current) ⌝ }
     ensures { λ _. ⌜ now (m .exit) ≡ stored current cell (now (bytes .entry)) (now (m .entry)) ⌝ }
 {
     let start = Cursor { at: cell.offset() };

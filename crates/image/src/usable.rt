@@ -1,5 +1,6 @@
 // When an image is usable. A byte that no rule names is not judged.
 use crate::cell::Cell;
+use crate::version::ADDRESS_OFFSET;
 use crate::version::IMAGE_LENGTH;
 use crate::version::VERSION;
 use crate::word::word_at;
@@ -63,7 +64,7 @@ pub fn is_usable(m: &[u8]) -> bool
     if !mark_ok(m) {
         return false;
     }
-    if m[5] == 0 {
+    if m[ADDRESS_OFFSET] == 0 {
         return false;
     }
     if !counts_ok(m) {

@@ -7,11 +7,8 @@ use mathlib.Core.Bool.{true}
 use Prim.Native.Nat.{ℕ, _≤_, _<_}
 use native.Mathlib.Omega.{arith}
 use lib.ListN.{length, getD, drop}
-use lib.Dec.{ltb}
-use borrow.Author.Tests.{ltb-true}
 use Rattle.laws.specs.Bytes.{slice, padded}
 use Rattle.laws.specs.Bits.{bit}
-use Rattle.laws.proofs.Tests.{and-both}
 use Rattle.laws.proofs.Bytes.{In, lay-none, slice-same}
 use Rattle.frame.specs.Apart.{contentsOf}
 use Rattle.image.specs.declared.cell.Cell.{Cell}
@@ -21,7 +18,7 @@ use Rattle.image.specs.Cell.{offset, size, isCell}
 use Rattle.image.specs.Words.{tableWord}
 use Rattle.image.specs.Usable.{usable, address}
 use Rattle.image.specs.Stored.{FitStore, touches}
-use Rattle.image.proofs.Cells.{one-cell, placed, word-inside}
+use Rattle.image.proofs.Cells.{one-cell, placed, word-inside, part-few}
 use Rattle.image.proofs.UsableFacts.{facts}
 use Rattle.image.proofs.Touches.{Own, touches-low, no-touch-in-cell}
 use Rattle.image.proofs.Stores.{stored-length, byte-stays, bit-stays, own-bit, cell-filled}
@@ -84,36 +81,38 @@ pub record Filled (d : Cell) (bs m′ : List ℕ) : Type 0 where
   pub bytes : slice (offset d) (size d) m′ ≡ padded (size d) bs
   pub its-bit : (j q : ℕ) → d ≡ Part j q → bit (tableWord m′ j) q ≡ 1
 
-module _ (ear : Hearing) (f m : List ℕ) (e : ℕ) (a : Act) (d : Cell) (h : ear (address m) f ≡ Accepted e a d) where
-  pub accepted-fits : Lawful ear → FitAccepted e a d (contentsOf f)
-  accepted-fits ok = rw h at (ok .fits (address m) f)
+pub accepted-fits : (ear : Hearing) → Lawful ear → (f m : List ℕ) (e : ℕ) (a : Act) (d : Cell) → ear (address m) f ≡ Accepted e a d
+    → FitAccepted e a d (contentsOf f)
+accepted-fits ear ok f m e a d h = rw h at (ok .fits (address m) f)
 
-  pub accepted-leaves : (v : Version) → answered ear v f m .image ≡ leaves v a d (contentsOf f) m
-  unfolding answered
-  accepted-leaves v = rw h
+pub accepted-leaves : (ear : Hearing) (v : Version) (f m : List ℕ) (e : ℕ) (a : Act) (d : Cell) → ear (address m) f ≡ Accepted e a d
+    → answered ear v f m .image ≡ leaves v a d (contentsOf f) m
+unfolding answered
+accepted-leaves ear v f m e a d h = rw h
 
 module _ (ear : Hearing) (ok : Lawful ear) (v : Version) (f m out : List ℕ) (e : ℕ) (d : Cell) where
   pub write-changes-its-cell : (k : ℕ) → ear (address m) f ≡ Accepted e (Store k) d → OnlyIn v d m (served ear v f m out .image)
-  write-changes-its-cell k h = go (way ear v f m out) (accepted-fits ear f m e (Store k) d h ok .act)
+  write-changes-its-cell k h = go (way ear v f m out) (accepted-fits ear ok f m e (Store k) d h .act)
     where
       go : Way ear v f m out → FitStore d (drop k (contentsOf f)) → OnlyIn v d m (served ear v f m out .image)
       go (early n i x) fit = rw x (record { cell = fit .cell; long = refl; bytes = λ i a b. refl; bits = λ j q l n. refl })
       go (through u r x) fit =
           let l = facts v m u .long-is in
           let bs = drop k (contentsOf f) in
-          rw (x, accepted-leaves ear f m e (Store k) d h v)
+          rw (x, accepted-leaves ear v f m e (Store k) d h)
           (record { cell = fit .cell; long = stored-length v d bs fit m l ∙ sym l; bytes = byte-stays v d bs fit m l; bits = bit-stays v d bs fit m l })
 
   -- the cell holds what was stored, 0 behind it, and the bit that goes with it is set if it is a part
   pub write-fills-its-cell : (k : ℕ) → ear (address m) f ≡ Accepted e (Store k) d → usable v m ≡ true → 269 ≤ length out
       → Filled d (drop k (contentsOf f)) (served ear v f m out .image)
   write-fills-its-cell k h u r =
-      let fit = accepted-fits ear f m e (Store k) d h ok .act in
+      let fit = accepted-fits ear ok f m e (Store k) d h .act in
       let l = facts v m u .long-is in
       let bs = drop k (contentsOf f) in
-      rw (served-is ear v f m out u r, accepted-leaves ear f m e (Store k) d h v)
+      rw (served-is ear v f m out u r, accepted-leaves ear v f m e (Store k) d h)
       (record { bytes = cell-filled v d bs fit m l; its-bit = own-bit v d bs fit m l })
 
+module _ (ear : Hearing) (v : Version) (f m out : List ℕ) (e : ℕ) (d : Cell) where
   pub show-and-sign-change-nothing : (a : Act) → (a ≡ Show) ⊎ (a ≡ Sign) → ear (address m) f ≡ Accepted e a d → served ear v f m out .image ≡ m
   show-and-sign-change-nothing a s h = go (way ear v f m out)
     where
@@ -123,7 +122,7 @@ module _ (ear : Hearing) (ok : Lawful ear) (v : Version) (f m out : List ℕ) (e
 
       go : Way ear v f m out → served ear v f m out .image ≡ m
       go (early n i x) = rw x
-      go (through u r x) = rw (x, accepted-leaves ear f m e a d h v) (left s)
+      go (through u r x) = rw (x, accepted-leaves ear v f m e a d h) (left s)
 
 -- a cell is kept: its bytes, and the bit that goes with it if it is a part
 pub record Kept (e : Cell) (m m′ : List ℕ) : Type 0 where
@@ -143,5 +142,5 @@ module _ (v : Version) (d : Cell) (m m′ : List ℕ) (only : OnlyIn v d m m′)
         bytes =
             slice-same m′ m (offset e) (size e) (only .long)
             (λ i a. only .bytes i (λ b. n (one-cell e d c (only .cell) i a b)) (no-touch-in-cell v e d c (only .cell) i a));
-        its-bit = λ j q i. only .bits j q (ltb-true j 16 (and-both (ltb j 16) (ltb q 11) (rw i at c) .0)) (λ z. n (i ∙ sym z));
+        its-bit = λ j q i. only .bits j q (part-few c i .0) (λ z. n (i ∙ sym z));
       }

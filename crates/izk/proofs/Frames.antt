@@ -5,7 +5,7 @@ use mathlib.Core.List.{[]}
 use Rattle.laws.specs.Bytes.{slice, lay, zeros, padded, sumOf, two, wordAt, codes}
 use Rattle.laws.specs.Checks.{judged, within, every, all, same}
 use Rattle.laws.specs.Bits.{withBit}
-use Rattle.frame.specs.Digits.{isDigit, allDigits, valueOf, charOf, charsOf, bytesOf, checksumOf}
+use Rattle.frame.specs.Digits.{isDigit, valueOf, charOf, charsOf, bytesOf, checksumOf}
 use Rattle.frame.specs.Apart.{lengthOk, endsOk, inner, bodyOf, contentsOf, sumOk, frameChecks}
 use Rattle.frame.specs.Built.{frameOf}
 use Rattle.image.specs.Cell.{when, constantsNamed, errorsNamed, isTable, tableIndex, tableNamed, partNamed}
@@ -24,6 +24,6 @@ use Rattle.izk.specs.Frames.{ended, on, after, right, example, examples}
 pub examples-hold : (all right examples ≡ true) × (right (example [] ":013F01BF" 0 ":013F0100BF" 0) ≡ true)
 unfolding examples ended on after right served answered heard recognised sought tried ruleOf commands rowed rowsNamed zeroFrom blank constantsOk
     warmth rises clockOk modeOk markOk addressOk countOk tableWord wordOk usable fresh fullSum stored when constantsNamed errorsNamed isTable
-    tableIndex tableNamed partNamed lengthOk endsOk inner bodyOf contentsOf sumOk frameChecks frameOf isDigit allDigits valueOf charOf charsOf
+    tableIndex tableNamed partNamed lengthOk endsOk inner bodyOf contentsOf sumOk frameChecks frameOf isDigit valueOf charOf charsOf
     bytesOf checksumOf withBit judged within every all same slice lay zeros padded sumOf two wordAt codes
 examples-hold = (refl, refl)

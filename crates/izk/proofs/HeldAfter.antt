@@ -3,14 +3,11 @@ use mathlib.Core.Path.{_≡_, refl, sym, ap, _∙_}
 use mathlib.Core.Logic.{inl, inr}
 use mathlib.Core.List.{List}
 use mathlib.Core.Bool.{true}
-use Prim.Native.Nat.{ℕ, _+_, _-_, _≤_}
+use Prim.Native.Nat.{ℕ, _+_, _-_, _≤_, _<_}
 use native.Mathlib.Omega.{arith}
-use lib.Dec.{ltb}
 use lib.ListN.{length, drop}
-use borrow.Author.Tests.{ltb-true}
 use Rattle.laws.specs.Checks.{judged}
 use Rattle.laws.specs.Bits.{bit, onesIn}
-use Rattle.laws.proofs.Tests.{and-both}
 use Rattle.laws.proofs.Bits.{ones-with}
 use Rattle.frame.specs.Apart.{contentsOf}
 use Rattle.image.specs.declared.cell.Cell.the-variants.{Part}
@@ -20,6 +17,7 @@ use Rattle.image.specs.Words.{tableWord}
 use Rattle.image.specs.Usable.{usable, address}
 use Rattle.image.specs.Held.{heldOf, heldParts}
 use Rattle.image.specs.Stored.{stored, FitStore}
+use Rattle.image.proofs.Cells.{part-numbers}
 use Rattle.image.proofs.UsableFacts.{facts}
 use Rattle.image.proofs.Touches.{WordAfter}
 use Rattle.image.proofs.Stores.{word-stored, own-bit}
@@ -38,13 +36,13 @@ held-is v m t u i = rw (u, i)
 -- the count of a word with a part's bit set
 counted : (v : Version) (k p : ℕ) (bs m : List ℕ) → FitStore (Part k p) bs → usable v m ≡ true
     → onesIn 11 (tableWord (stored v (Part k p) bs m) k) ≡ onesIn 11 (tableWord m k) + (1 - bit (tableWord m k) p)
-counted v k p bs m fit u = go (word-stored v (Part k p) bs fit m whole k (ltb-true k 16 (numbers .0)))
+counted v k p bs m fit u = go (word-stored v (Part k p) bs fit m whole k (numbers .0))
   where
     whole : length m ≡ imageLength v
     whole = facts v m u .long-is
 
-    numbers : (ltb k 16 ≡ true) × (ltb p 11 ≡ true)
-    numbers = and-both (ltb k 16) (ltb p 11) (fit .cell)
+    numbers : (k < 16) × (p < 11)
+    numbers = part-numbers k p (fit .cell)
 
     go : WordAfter (Part k p) k (tableWord m k) (tableWord (stored v (Part k p) bs m) k)
         → onesIn 11 (tableWord (stored v (Part k p) bs m) k) ≡ onesIn 11 (tableWord m k) + (1 - bit (tableWord m k) p)
@@ -53,7 +51,7 @@ counted v k p bs m fit u = go (word-stored v (Part k p) bs fit m whole k (ltb-tr
         rw (e, b) (omega arith)
     go (inr (q, same, l, e)) =
         let z : q ≡ p = cc in
-        rw (e, z) (ones-with 11 (tableWord m k) p (ltb-true p 11 (numbers .1)))
+        rw (e, z) (ones-with 11 (tableWord m k) p (numbers .1))
 
 -- the number of held parts grows by one if the part was missing, and stays if it was held
 pub part-counts-once : (ear : Hearing) → Lawful ear → (v : Version) (f m out : List ℕ) (e n t p : ℕ) → isTable t ≡ true
@@ -61,8 +59,8 @@ pub part-counts-once : (ear : Hearing) → Lawful ear → (v : Version) (f m out
     → usable v m ≡ true → 269 ≤ length out
     → heldParts v (served ear v f m out .image) t .parts ≡ heldParts v m t .parts + (1 - bit (tableWord m (tableIndex t)) p)
 part-counts-once ear ok v f m out e n t p i h u r =
-    let left = ap (λ a. a .image) (served-is ear v f m out u r) ∙ accepted-leaves ear f m e (Store n) (Part (tableIndex t) p) h v in
-    held-is v (served ear v f m out .image) t (usable-stays ear v f m out ok u) i
+    let left = ap (λ a. a .image) (served-is ear v f m out u r) ∙ accepted-leaves ear v f m e (Store n) (Part (tableIndex t) p) h in
+    held-is v (served ear v f m out .image) t (usable-stays ear ok v f m out u) i
     ∙ ap (λ (x : List ℕ). onesIn 11 (tableWord x (tableIndex t))) left
-    ∙ counted v (tableIndex t) p (drop n (contentsOf f)) m (accepted-fits ear f m e (Store n) (Part (tableIndex t) p) h ok .act) u
+    ∙ counted v (tableIndex t) p (drop n (contentsOf f)) m (accepted-fits ear ok f m e (Store n) (Part (tableIndex t) p) h .act) u
     ∙ ap (λ (c : ℕ). c + (1 - bit (tableWord m (tableIndex t)) p)) (sym (held-is v m t u i))

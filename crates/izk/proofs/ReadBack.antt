@@ -23,9 +23,9 @@ use Rattle.rules.specs.declared.rule.Rule.{Rule}
 use Rattle.rules.specs.declared.verdict.Verdict.{Verdict}
 use Rattle.rules.specs.declared.verdict.Verdict.the-variants.{Accepted}
 use Rattle.rules.specs.Rules.{byte, rowsNamed, namedBy, commands, ruleOf}
-use Rattle.rules.proofs.Naming.{when-it}
+use Rattle.rules.proofs.Naming.{when-cell}
 use Rattle.command.specs.Act.{says}
-use Rattle.command.specs.Reply.{done, BuffersAfter}
+use Rattle.command.specs.Reply.{done, BuffersAfter, replyIn}
 use Rattle.izk.specs.Heard.{answered, Hearing, Lawful}
 use Rattle.izk.specs.Block.{served}
 use Rattle.izk.proofs.Serving.{Accepts, answered-address, answered-usable, served-is, reply-seen, usable-stays, address-stays, zero-is-accepted}
@@ -36,7 +36,7 @@ use Rattle.izk.proofs.Changes.{accepted-fits, accepted-leaves}
 -- a frame was done, and its reply is this
 pub record Replies (a : BuffersAfter) (reply : List ℕ) : Type 0 where
   pub done-is : a .number ≡ 0
-  pub reply-is : take (a .len) (a .out) ≡ reply
+  pub reply-is : replyIn a ≡ reply
 
 module _ (ear : Hearing) (ok : Lawful ear) (v : Version) (f g m : List ℕ) (u : usable v m ≡ true) (e e′ k : ℕ) (d : Cell)
     (stores : ear (address m) f ≡ Accepted e (Store k) d) (shows : ear (address m) g ≡ Accepted e′ Show d) where
@@ -46,8 +46,8 @@ module _ (ear : Hearing) (ok : Lawful ear) (v : Version) (f g m : List ℕ) (u :
 
   back : says v Show d (answered ear v f m .image) ≡ drop k (contentsOf f)
   back =
-      let fit = accepted-fits ear f m e (Store k) d stores ok .act in
-      rw (accepted-leaves ear f m e (Store k) d stores v) (shown-back v d (drop k (contentsOf f)) fit m (facts v m u .long-is))
+      let fit = accepted-fits ear ok f m e (Store k) d stores .act in
+      rw (accepted-leaves ear v f m e (Store k) d stores) (shown-back v d (drop k (contentsOf f)) fit m (facts v m u .long-is))
 
   pub reads-back : (out out′ : List ℕ) → 269 ≤ length out → 269 ≤ length out′
       → Replies (served ear v g (served ear v f m out .image) out′) (frameOf (take (2 + e′) (contentsOf g) ++ drop k (contentsOf f)))
@@ -56,7 +56,7 @@ module _ (ear : Hearing) (ok : Lawful ear) (v : Version) (f g m : List ℕ) (u :
       rw (served-is ear v f m out u room)
       (record {
         done-is = rw (served-is ear v g _ out′ u′ room′, shown);
-        reply-is = reply-seen ear v g (answered ear v f m .image) out′ ok u′ room′ ∙ rw (shown, back);
+        reply-is = reply-seen ear ok v g (answered ear v f m .image) out′ u′ room′ ∙ rw (shown, back);
       })
 
 -- ---- the five pairs
@@ -83,7 +83,7 @@ pub record Pair (w r : ℕ) : Type 0 where
 rows-same : (c : List ℕ) (d : Cell) → rowsNamed c ≡ Named′.Cell d → errorsNamed (byte c 3) ≡ Named′.Cell d
 unfolding rowsNamed errorsNamed when
 rows-same c d h =
-    let p = when-it _ _ _ h in
+    let p = when-cell _ _ _ h in
     rw (and-both (within 1 8 (byte c 3)) _ (p .0) .0) (ap Named′.Cell (p .1))
 
 pair-of : {w r : ℕ} {x y : Rule} (k : ℕ) → ruleOf w commands ≡ F.Rule x → ruleOf r commands ≡ F.Rule y → x .act ≡ Store k → y .act ≡ Show → NamesAlike x y
@@ -107,9 +107,9 @@ pub written-reads-back : {w r : ℕ} (p : Pair w r) (ear : Hearing) → Lawful e
     → served ear v f m out .number ≡ 0 → served ear v g (served ear v f m out .image) out′ .number ≡ 0
     → Replies (served ear v g (served ear v f m out .image) out′) (frameOf (take (2 + p .reading .echo) (contentsOf g) ++ drop (p .from) (contentsOf f)))
 written-reads-back p ear ok v f g m out out′ u room room′ cf cg same-bytes zf zg =
-    let x = zero-is-accepted ear v f m out ok u room zf in
-    let z = zero-is-accepted ear v g _ out′ ok (usable-stays ear v f m out ok u) room′ zg in
-    let y : Accepts ear (address m) g = rw (address-stays ear v f m out ok u) at z in
+    let x = zero-is-accepted ear ok v f m out u room zf in
+    let z = zero-is-accepted ear ok v g _ out′ (usable-stays ear ok v f m out u) room′ zg in
+    let y : Accepts ear (address m) g = rw (address-stays ear ok v f m out u) at z in
     let a = ok .follows (address m) f (p .writing) (x .verdict) (rw cf (p .written)) in
     let b = ok .follows (address m) g (p .reading) (y .verdict) (rw cg (p .read)) in
     let n = p .same (contentsOf f) (contentsOf g) (x .cell) same-bytes (a .names) in

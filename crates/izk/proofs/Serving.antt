@@ -25,7 +25,7 @@ use Rattle.rules.specs.declared.verdict.Verdict.{Verdict}
 use Rattle.rules.specs.declared.verdict.Verdict.the-variants.{Refused, Accepted}
 use Rattle.rules.specs.Fits.{Fit, IsRefusal, FitVerdict, Numbered}
 use Rattle.command.specs.Act.{says, leaves}
-use Rattle.command.specs.Reply.{Outcome, refusal, done, sent}
+use Rattle.command.specs.Reply.{Outcome, refusal, done, sent, replyIn}
 use Rattle.command.proofs.Replying.{says-most}
 use Rattle.izk.specs.Heard.{answered, Hearing, Lawful}
 use Rattle.izk.specs.Block.{served}
@@ -36,7 +36,7 @@ module _ (v : Version) (m : List ℕ) (u : Usable v m) where
   act-keeps : (a : Act) (d : Cell) (c : List ℕ) → Fit a d c → Usable v (leaves v a d c m) × (address (leaves v a d c m) ≡ address m)
   act-keeps Show d c f = (u, refl)
   act-keeps Sign d c f = (u, refl)
-  act-keeps (Store k) d c f = (store-usable v d (drop k c) f m (u .long-is) u, head-stays v d (drop k c) f m (u .long-is) u 5 (omega arith))
+  act-keeps (Store k) d c f = (store-usable v d (drop k c) f m (u .long-is) u, head-stays v d (drop k c) f m (u .long-is) 5 (omega arith))
 
 -- ---- what is answered
 
@@ -106,46 +106,47 @@ module _ (ear : Hearing) (v : Version) (f m out : List ℕ) where
       go true u (no r) = early 2 (lit< tt, lit< tt) (no-room-is-2 u (omega arith))
       go true u (yes r) = through u r (served-is u r)
 
+module _ (ear : Hearing) (ok : Lawful ear) (v : Version) (f m out : List ℕ) where
   -- the reply stands at the start of the output, and what follows is as it was
-  module _ (ok : Lawful ear) (u : usable v m ≡ true) (room : 269 ≤ length out) where
+  module _ (u : usable v m ≡ true) (room : 269 ≤ length out) where
     fits : length (answered ear v f m .reply) ≤ length out
     fits = omega (arith, answered-length ear ok v f m u)
 
-    pub reply-seen : take (served ear v f m out .len) (served ear v f m out .out) ≡ answered ear v f m .reply
+    pub reply-seen : replyIn (served ear v f m out) ≡ answered ear v f m .reply
     reply-seen =
         let reply = answered ear v f m .reply in
-        rw (served-is u room) (lay-take out reply fits (length reply) (omega arith) ∙ take-length reply)
+        rw (served-is ear v f m out u room) (lay-take out reply fits (length reply) (omega arith) ∙ take-length reply)
 
     pub rest-stays : drop (served ear v f m out .len) (served ear v f m out .out) ≡ drop (served ear v f m out .len) out
-    rest-stays = rw (served-is u room) (lay-rest out (answered ear v f m .reply) fits)
+    rest-stays = rw (served-is ear v f m out u room) (lay-rest out (answered ear v f m .reply) fits)
 
   -- the number has one digit or two
-  pub number-short : Lawful ear → served ear v f m out .number < 100
+  pub number-short : served ear v f m out .number < 100
   unfolding answered
-  number-short ok = go way
+  number-short = go (way ear v f m out)
     where
       of : (r : Verdict) → Numbered r → done v r (contentsOf f) m .number < 100
       of (Refused n) h = h .1
       of (Accepted e a d) h = omega arith
 
-      go : Way → served ear v f m out .number < 100
+      go : Way ear v f m out → served ear v f m out .number < 100
       go (early n i e) = rw e (i .1)
       go (through u r e) = rw e (of (ear (address m) f) (ok .numbered (address m) f))
 
   -- ---- a usable image stays usable, and keeps its address, whatever is served
 
-  module _ (ok : Lawful ear) (u : usable v m ≡ true) where
+  module _ (u : usable v m ≡ true) where
     pub usable-stays : usable v (served ear v f m out .image) ≡ true
-    usable-stays = go way
+    usable-stays = go (way ear v f m out)
       where
-        go : Way → usable v (served ear v f m out .image) ≡ true
+        go : Way ear v f m out → usable v (served ear v f m out .image) ≡ true
         go (early n i e) = rw e u
         go (through _ r e) = rw e (answered-usable ear ok v f m u)
 
     pub address-stays : address (served ear v f m out .image) ≡ address m
-    address-stays = go way
+    address-stays = go (way ear v f m out)
       where
-        go : Way → address (served ear v f m out .image) ≡ address m
+        go : Way ear v f m out → address (served ear v f m out .image) ≡ address m
         go (early n i e) = rw e
         go (through _ r e) = rw e (answered-address ear ok v f m u)
 
@@ -153,7 +154,7 @@ module _ (ear : Hearing) (v : Version) (f m out : List ℕ) where
 
     pub zero-is-accepted : 269 ≤ length out → served ear v f m out .number ≡ 0 → Accepts ear (address m) f
     unfolding answered
-    zero-is-accepted room z = go (ear (address m) f) refl (ok .numbered (address m) f) (rw (served-is u room) at z)
+    zero-is-accepted room z = go (ear (address m) f) refl (ok .numbered (address m) f) (rw (served-is ear v f m out u room) at z)
       where
         go : (r : Verdict) → ear (address m) f ≡ r → Numbered r → done v (ear (address m) f) (contentsOf f) m .number ≡ 0 → Accepts ear (address m) f
         go (Refused n) e h z = let y : n ≡ 0 = rw e at z in absurd (omega arith)

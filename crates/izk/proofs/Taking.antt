@@ -17,7 +17,7 @@ use Rattle.image.specs.Usable.{usable, address}
 use Rattle.rules.specs.declared.verdict.Verdict.{Verdict}
 use Rattle.rules.specs.declared.verdict.Verdict.the-variants.{Refused}
 use Rattle.rules.specs.Verdict.{recognised}
-use Rattle.command.specs.Reply.{refusal, replied, sent, Serves}
+use Rattle.command.specs.Reply.{refusal, done, sent, Serves}
 use Rattle.izk.specs.Heard.{heard, answered}
 use Rattle.izk.specs.Block.{served}
 use Rattle.izk.proofs.Serving.{served-is}
@@ -68,7 +68,8 @@ module _ (f z w : List ℕ) (r : Answer) (room : 132 ≤ length z) (d : Does (ap
 
     -- so what the contents are answered is what is served
     pub answered-serves : (m out : List ℕ) (s : Answer) (m′ out′ : List ℕ) → usable current m ≡ true → 269 ≤ length out
-        → Serves (sent (replied current (take (r .len) w) m) out) s m′ out′ → Serves (served heard current f m out) s m′ out′
+        → Serves (sent (done current (recognised (address m) (take (r .len) w)) (take (r .len) w) m) out) s m′ out′
+        → Serves (served heard current f m out) s m′ out′
     unfolding answered heard
     answered-serves m out s m′ out′ u g h =
         let o = opened in

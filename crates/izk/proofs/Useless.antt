@@ -13,9 +13,9 @@ use Rattle.laws.specs.Checks.{same}
 use Rattle.laws.proofs.Tests.{and-both, same-is, all-of}
 use Rattle.image.specs.Version.{current}
 use Rattle.image.specs.Fresh.{fresh}
-use Rattle.command.specs.Reply.{BuffersAfter}
+use Rattle.command.specs.Reply.{BuffersAfter, replyIn}
 use Rattle.izk.specs.Frames.{Example, ended, on, after, right, example, examples}
-use Rattle.izk.specs.Useless.{Block, Keeps, replyOf, RefusesAll, RepliesTheSame, StoresNothing, EchoesLater}
+use Rattle.izk.specs.Useless.{Block, Keeps, RefusesAll, RepliesTheSame, StoresNothing, EchoesLater}
 use Rattle.izk.proofs.Frames.{examples-hold}
 
 -- ---- what an example says
@@ -24,15 +24,15 @@ module _ (l : Example) (h : right l ≡ true) where
   abbrev A : BuffersAfter
   A = on (after (fresh current 1) (l .earlier)) (l .frame)
 
-  parts : (eqb (A .number) (l .number) ≡ true) × ((same (replyOf A) (ended (l .reply)) && eqb (getD (A .image) 6 0) (l .mask)) ≡ true)
+  right-is : (eqb (A .number) (l .number) ≡ true) × ((same (replyIn A) (ended (l .reply)) && eqb (getD (A .image) 6 0) (l .mask)) ≡ true)
   unfolding right
-  parts = and-both (eqb (A .number) (l .number)) (same (replyOf A) (ended (l .reply)) && eqb (getD (A .image) 6 0) (l .mask)) h
+  right-is = and-both (eqb (A .number) (l .number)) (same (replyIn A) (ended (l .reply)) && eqb (getD (A .image) 6 0) (l .mask)) h
 
   number-is : A .number ≡ l .number
-  number-is = eqb-true _ _ (parts .0)
+  number-is = eqb-true _ _ (right-is .0)
 
-  reply-is : replyOf A ≡ ended (l .reply)
-  reply-is = same-is _ _ (and-both (same (replyOf A) (ended (l .reply))) (eqb (getD (A .image) 6 0) (l .mask)) (parts .1) .0)
+  reply-is : replyIn A ≡ ended (l .reply)
+  reply-is = same-is _ _ (and-both (same (replyIn A) (ended (l .reply))) (eqb (getD (A .image) 6 0) (l .mask)) (right-is .1) .0)
 
 abbrev P1 : Example
 P1 = example [] ":0132CD" 0 ":013200CD" 0
@@ -81,15 +81,15 @@ module _ (b : Block) (keeps : Keeps b) where
   unfolding after codes ended
   not-replying-the-same r =
       other-length ":013200CD" ":013D010000C1" 11 15 refl refl (λ e. absurd (let z : ⊥ = omega arith in z))
-      (sym (reply-is P1 p1) ∙ sym (ap replyOf (call 0 (fresh current 1) ":0132CD"))
-      ∙ r 0 0 (ended ":0132CD") (ended ":013D01C1") (fresh current 1) (zeros 269) ∙ ap replyOf (call 0 (fresh current 1) ":013D01C1") ∙ reply-is P9 p9)
+      (sym (reply-is P1 p1) ∙ sym (ap replyIn (call 0 (fresh current 1) ":0132CD"))
+      ∙ r 0 0 (ended ":0132CD") (ended ":013D01C1") (fresh current 1) (zeros 269) ∙ ap replyIn (call 0 (fresh current 1) ":013D01C1") ∙ reply-is P9 p9)
 
   -- at P11
   pub not-storing-nothing : ¬ StoresNothing b
   unfolding after codes ended
   not-storing-nothing r =
       other-length ":013F0101140005A5" ":013F0100BF" 19 13 refl refl (λ e. absurd (let z : ⊥ = omega arith in z))
-      (sym (reply-is P11 p11) ∙ ap (λ (m : List ℕ). replyOf (on m ":013F01BF")) kept ∙ reply-is (example [] ":013F01BF" 0 ":013F0100BF" 0) (examples-hold .1))
+      (sym (reply-is P11 p11) ∙ ap (λ (m : List ℕ). replyIn (on m ":013F01BF")) kept ∙ reply-is (example [] ":013F01BF" 0 ":013F0100BF" 0) (examples-hold .1))
     where
       kept : after (fresh current 1) (":013E0101140005A6" ∷ []) ≡ fresh current 1
       kept = ap (λ a. a .image) (sym (call 0 (fresh current 1) ":013E0101140005A6")) ∙ r 0 (ended ":013E0101140005A6") (fresh current 1) (zeros 269)
@@ -99,4 +99,4 @@ module _ (b : Block) (keeps : Keeps b) where
   unfolding after codes ended
   not-echoing r =
       other-length ":013200CD" ":0132CD" 11 9 refl refl (λ e. absurd (let z : ⊥ = omega arith in z))
-      (sym (reply-is P1 p1) ∙ sym (ap replyOf (call 1 (fresh current 1) ":0132CD")) ∙ r 0 (ended ":0132CD") (fresh current 1) (zeros 269))
+      (sym (reply-is P1 p1) ∙ sym (ap replyIn (call 1 (fresh current 1) ":0132CD")) ∙ r 0 (ended ":0132CD") (fresh current 1) (zeros 269))

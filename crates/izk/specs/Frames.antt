@@ -4,13 +4,13 @@ use mathlib.Core.Bool.{Bool, _&&_}
 use Prim.Native.Nat.{ℕ}
 use Prim.Native.String as S
 use Prim.Native.String.{String}
-use lib.ListN.{getD, take}
+use lib.ListN.{getD}
 use lib.Dec.{eqb}
 use Rattle.laws.specs.Bytes.{zeros, codes}
 use Rattle.laws.specs.Checks.{same}
 use Rattle.image.specs.Version.{current}
 use Rattle.image.specs.Fresh.{fresh}
-use Rattle.command.specs.Reply.{BuffersAfter}
+use Rattle.command.specs.Reply.{BuffersAfter, replyIn}
 use Rattle.izk.specs.Heard.{heard}
 use Rattle.izk.specs.Block.{served}
 
@@ -38,7 +38,7 @@ after m (f ∷ fs) = after (on m f .image) fs
 unfoldable pub right : Example → Bool
 right l =
     let a = on (after (fresh current 1) (l .earlier)) (l .frame) in
-    eqb (a .number) (l .number) && (same (take (a .len) (a .out)) (ended (l .reply)) && eqb (getD (a .image) 6 0) (l .mask))
+    eqb (a .number) (l .number) && (same (replyIn a) (ended (l .reply)) && eqb (getD (a .image) 6 0) (l .mask))
 
 abbrev pub example : List String → String → ℕ → String → ℕ → Example
 example b f n r k = record { earlier = b; frame = f; number = n; reply = r; mask = k }

@@ -3,9 +3,8 @@ use mathlib.Core.Path.{_≡_}
 use mathlib.Core.Logic.{_≢_}
 use mathlib.Core.List.{List}
 use Prim.Native.Nat.{ℕ, suc}
-use lib.ListN.{take}
 use Rattle.image.specs.Version.{current}
-use Rattle.command.specs.Reply.{BuffersAfter}
+use Rattle.command.specs.Reply.{BuffersAfter, replyIn}
 use Rattle.izk.specs.Heard.{heard}
 use Rattle.izk.specs.Block.{served}
 
@@ -17,15 +16,11 @@ Block = ℕ → List ℕ → List ℕ → List ℕ → BuffersAfter
 abbrev pub Keeps : Block → Type 0
 Keeps b = (n : ℕ) (f m out : List ℕ) → b n f m out ≡ served heard current f m out
 
--- the reply that a call sends
-abbrev pub replyOf : BuffersAfter → List ℕ
-replyOf a = take (a .len) (a .out)
-
 abbrev pub RefusesAll : Block → Type 0
 RefusesAll b = (n : ℕ) (f m out : List ℕ) → b n f m out .number ≢ 0
 
 abbrev pub RepliesTheSame : Block → Type 0
-RepliesTheSame b = (n k : ℕ) (f g m out : List ℕ) → replyOf (b n f m out) ≡ replyOf (b k g m out)
+RepliesTheSame b = (n k : ℕ) (f g m out : List ℕ) → replyIn (b n f m out) ≡ replyIn (b k g m out)
 
 -- it acknowledges a write and stores nothing
 abbrev pub StoresNothing : Block → Type 0
@@ -33,4 +28,4 @@ StoresNothing b = (n : ℕ) (f m out : List ℕ) → b n f m out .image ≡ m
 
 -- it serves its first frame and then only sends each frame back
 abbrev pub EchoesLater : Block → Type 0
-EchoesLater b = (n : ℕ) (f m out : List ℕ) → replyOf (b (suc n) f m out) ≡ f
+EchoesLater b = (n : ℕ) (f m out : List ℕ) → replyIn (b (suc n) f m out) ≡ f

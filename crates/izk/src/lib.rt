@@ -30,7 +30,9 @@ pub fn serve(frame: &[u8], m: &mut [u8], out: &mut [u8]) -> Answer
         return Answer { number, len: 0 };
     }
     let n = taken.len;
-    command::reply_to(&work[..n], m, out)
+    let body = &work[..n];
+    let verdict = rules::recognise(body, m[image::ADDRESS_OFFSET]);
+    command::reply_to(verdict, body, m, out)
 }
 
 // Takes a frame apart: its body without the checksum stands at the start of the output. Refuses 2 to 6.

@@ -6,7 +6,8 @@ use native.Mathlib.Nat.{not-suc-le-zero}
 use native.Mathlib.Numerals.{add-one}
 use native.Mathlib.Omega.{arith}
 use lib.ListN.{length, getD, take, drop, set, length-take, length-drop, length-set, length-append, length-replicate, List·getD-append}
-use lib.Seq.{sets, length-sets, sets-eq, set-comm, getD-set-same, getD-set-other, getD-take, getD-drop, ext-getD, take-at, drop-at, take-append-le, length-take-le}
+use lib.Seq.{sets, length-sets, sets-eq, set-comm, getD-set-same, getD-set-other, getD-take, getD-drop, ext-getD, take-at, drop-at, take-append-le}
+use lib.Seq.{length-take-le}
 use Rattle.laws.specs.Bytes.{slice, lay, zeros, padded, two, wordAt}
 
 -- i lies in the n bytes from a

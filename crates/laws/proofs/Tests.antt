@@ -1,7 +1,7 @@
 -- What tests mean. Assumes nothing.
 use mathlib.Core.Path.{_≡_, refl, ap₂}
 use mathlib.Core.Logic.{_⊎_, inl, inr}
-use mathlib.Core.List.{List, [], _∷_, List·Memᴰ, List·Memᴰ·cases-cons, List·Memᴰ·not-nil}
+use mathlib.Core.List.{List, [], _∷_, _++_, List·Memᴰ, List·Memᴰ·cases-cons, List·Memᴰ·not-nil}
 use mathlib.Core.Bool.{Bool, true, false, _&&_, _||_, and-false}
 use Prim.Native.Nat.{ℕ, zero, suc, _+_, _≤_, _<_}
 use native.Mathlib.Decide.{ℕ-discrete}
@@ -84,6 +84,12 @@ all-of {A} t {x} {l = y ∷ l} h m = go (and-both (t y) (all t l) h) (λ g k. al
     go : (t y ≡ true) × (all t l ≡ true) → (all t l ≡ true → List·Memᴰ x l → t x ≡ true) → (x ≡ y) ⊎ List·Memᴰ x l → t x ≡ true
     go p ih (inl e) = rw e (p .0)
     go p ih (inr k) = ih (p .1) k
+
+-- of one list after another
+pub all-then : {A : Type 0} (t : A → Bool) (a b : List A) → all t a ≡ true → all t b ≡ true → all t (a ++ b) ≡ true
+unfolding all
+all-then t [] b g h = h
+all-then t (x ∷ a) b g h = let p = and-both (t x) (all t a) g in rw (p .0, all-then t a b (p .1) h)
 
 -- ---- the same numbers
 

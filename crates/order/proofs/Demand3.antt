@@ -61,7 +61,7 @@ module _ (ear : Hearing) (ok : Lawful ear) (v : Version) (a : ℕ) where
   unfolding answered
   step-is m x g =
       ap₂ (λ (t : BuffersAfter) (l : List ℕ). ((t .number, l), t .image)) (served-is ear v (x .frame) m (x .out) (g .0) (x .room))
-      (reply-seen ear v (x .frame) m (x .out) ok (g .0) (x .room))
+      (reply-seen ear ok v (x .frame) m (x .out) (g .0) (x .room))
       ∙ ap (λ (b : ℕ). did v (ear b (x .frame)) (contentsOf (x .frame)) m) (g .1)
 
   stays : (m : List ℕ) (x : Call) → Good v a m → Good v a (step ear v m x .1)

@@ -11,7 +11,7 @@ use Rattle.laws.specs.Checks.{judged, within, every, all}
 use Rattle.laws.specs.Bits.{withBit}
 use Rattle.reorder.specs.Reorder.{final, pick, SameService}
 use Rattle.reorder.proofs.Tests.{undoes, reorders-of}
-use Rattle.frame.specs.Digits.{isDigit, allDigits, valueOf, charOf, charsOf, bytesOf, checksumOf}
+use Rattle.frame.specs.Digits.{isDigit, valueOf, charOf, charsOf, bytesOf, checksumOf}
 use Rattle.frame.specs.Apart.{lengthOk, endsOk, inner, bodyOf, contentsOf, sumOk, frameChecks}
 use Rattle.frame.specs.Built.{frameOf}
 use Rattle.image.specs.Version.{versionNumber, current}
@@ -31,12 +31,12 @@ use Rattle.order.proofs.Demand3.{any-order-serves}
 use Rattle.order.proofs.Tests.{disjoint, clear, noneMeet, quiet, no-clash-of}
 
 -- n parts of table t from part p on, each byte of a part its number
-unfoldable pub writes : ℕ → ℕ → ℕ → List Call
-writes t p zero = []
-writes t p (suc n) = call (frameOf (1 ∷ (59 ∷ (t ∷ (p ∷ replicate 128 p))))) ∷ writes t (suc p) n
+unfoldable pub partsSent : ℕ → ℕ → ℕ → List Call
+partsSent t p zero = []
+partsSent t p (suc n) = call (frameOf (1 ∷ (59 ∷ (t ∷ (p ∷ replicate 128 p))))) ∷ partsSent t (suc p) n
 
 unfoldable pub calls : List Call
-calls = writes 2 1 11 ++ writes 12 1 2
+calls = partsSent 2 1 11 ++ partsSent 12 1 2
 
 -- an order of the thirteen, and the places at which it has each
 unfoldable pub other : List ℕ
@@ -54,15 +54,15 @@ unfolding undoes other back every
 redone = refl
 
 no-two-meet : quiet heard 1 calls ≡ true
-unfolding quiet noneMeet clear disjoint all calls writes heard recognised sought tried ruleOf commands when isTable tableIndex partNamed lengthOk endsOk
-    inner bodyOf contentsOf sumOk frameChecks frameOf isDigit allDigits valueOf charOf charsOf bytesOf checksumOf judged within every slice sumOf
+unfolding quiet noneMeet clear disjoint all calls partsSent heard recognised sought tried ruleOf commands when isTable tableIndex partNamed lengthOk endsOk
+    inner bodyOf contentsOf sumOk frameChecks frameOf isDigit valueOf charOf charsOf bytesOf checksumOf judged within every slice sumOf
 no-two-meet = refl
 
 is-usable : usable current (fresh current 1) ≡ true
 is-usable = fresh-usable current 1 (λ e. absurd (let z : ⊥ = omega arith in z))
 
 pub same-service : SameService (step heard current) nothing (0, []) (fresh current 1) calls other
-unfolding calls writes back fresh lay zeros
+unfolding calls partsSent back fresh lay zeros
 same-service =
     any-order-serves heard heard-lawful current 1 calls other (fresh current 1) (is-usable, refl) (reorders-of back other undone redone)
     (no-clash-of heard 1 calls no-two-meet)
@@ -75,17 +75,19 @@ rows p zero = []
 rows p (suc n) = replicate 128 p ++ rows (suc p) n
 
 -- the words of the sixteen tables: all eleven parts of table 2 are held, and the first two of table 12, the tenth in the image
-unfoldable pub words : List ℕ
-words = zeros 2 ++ (7 ∷ (255 ∷ (zeros 14 ++ (0 ∷ (3 ∷ zeros 12)))))
+unfoldable pub heldWords : List ℕ
+heldWords = zeros 2 ++ (7 ∷ (255 ∷ (zeros 14 ++ (0 ∷ (3 ∷ zeros 12)))))
 
 -- the whole image: mark, version and address, the words, the rows of both tables, and 0 elsewhere
 unfoldable pub expected : List ℕ
-expected = (73 ∷ (90 ∷ (75 ∷ (0 ∷ (versionNumber current ∷ (1 ∷ zeros 11)))))) ++ (words ++ (zeros 2584 ++ (rows 1 11 ++ (zeros 9856 ++ (rows 1 2 ++ zeros 9600)))))
+expected =
+    (73 ∷ (90 ∷ (75 ∷ (0 ∷ (versionNumber current ∷ (1 ∷ zeros 11))))))
+    ++ (heldWords ++ (zeros 2584 ++ (rows 1 11 ++ (zeros 9856 ++ (rows 1 2 ++ zeros 9600)))))
 
 -- as written, and otherwise
 pub both-orders : (final (step heard current) (fresh current 1) calls ≡ expected)
     × (final (step heard current) (fresh current 1) (pick nothing calls other) ≡ expected)
-unfolding calls other writes rows words expected served answered heard recognised sought tried stored ruleOf commands markOk addressOk countOk tableWord
-    wordOk usable fresh when isTable tableIndex partNamed lengthOk endsOk inner bodyOf contentsOf sumOk frameChecks frameOf isDigit allDigits valueOf
-    charOf charsOf bytesOf checksumOf withBit judged within every slice lay zeros padded sumOf two wordAt
+unfolding calls other partsSent rows heldWords expected served answered heard recognised sought tried stored ruleOf commands markOk addressOk countOk tableWord
+    wordOk usable fresh when isTable tableIndex partNamed lengthOk endsOk inner bodyOf contentsOf sumOk frameChecks frameOf isDigit valueOf
+    charOf charsOf bytesOf checksumOf withBit judged within every all slice lay zeros padded sumOf two wordAt
 both-orders = (refl, refl)

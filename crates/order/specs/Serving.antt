@@ -5,12 +5,12 @@ use mathlib.Core.List.{List, [], List·Memᴰ}
 use mathlib.Core.Bool.{true}
 use Prim.Native.Nat.{ℕ, _≤_}
 use native.Mathlib.Omega.{arith}
-use lib.ListN.{length, take, replicate, length-replicate}
+use lib.ListN.{length, replicate, length-replicate}
 use Rattle.image.specs.declared.cell.Cell.{Cell}
 use Rattle.image.specs.Version.{Version}
 use Rattle.image.specs.Usable.{usable, address}
 use Rattle.rules.specs.declared.verdict.Verdict.{Verdict}
-use Rattle.command.specs.Reply.{readsOf, writesOf}
+use Rattle.command.specs.Reply.{readsOf, writesOf, replyIn}
 use Rattle.izk.specs.Heard.{Hearing}
 use Rattle.izk.specs.Block.{served}
 
@@ -29,7 +29,7 @@ nothing = call []
 
 -- the number and the reply, as it stands in the output; and the image. Characters behind the reply are not spoken of
 abbrev pub step : Hearing → Version → List ℕ → Call → (ℕ × List ℕ) × List ℕ
-step ear v m x = let a = served ear v (x .frame) m (x .out) in ((a .number, take (a .len) (a .out)), a .image)
+step ear v m x = let a = served ear v (x .frame) m (x .out) in ((a .number, replyIn a), a .image)
 
 -- a usable image of address a
 abbrev pub Good : Version → ℕ → List ℕ → Type 0

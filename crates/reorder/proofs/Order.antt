@@ -7,7 +7,7 @@ use native.Mathlib.Omega.{arith}
 use native.Mathlib.Decide.{decLt}
 use lib.ListN.{length, getD}
 use Rattle.reorder.specs.Reorder.{outcomes, final, Commutes, place, Reorders, NoClash, KeepsClashes, SameService}
-use Rattle.reorder.proofs.Walk.{from, pairs-of, mem-place, place-mem, Runs, read-off, base, Free, reordered}
+use Rattle.reorder.proofs.Walk.{from, pairs-of, mem-place, place-mem, Leads, read-off, base, Free, reordered}
 
 module _ {S F O : Type 0} (step : S → F → O × S) (Good : S → Type 0) (Clash : F → F → Type 0)
     (stays : (s : S) (f : F) → Good s → Good (step s f .1))
@@ -35,10 +35,10 @@ module _ {S F O : Type 0} (step : S → F → O × S) (Good : S → Type 0) (Cla
       all : (i : ℕ) → 0 ≤ i → i < 0 + length fs → List·Memᴰ i o
       all i lo hi = let r = re .all i (omega arith) in subst (λ x. List·Memᴰ x o) (r .2) (place-mem o (r .0) (r .1))
 
-      in-list : Runs step frame ans s (from 0 (length fs)) t
+      in-list : Leads step frame ans s (from 0 (length fs)) t
       in-list = base step frame ans d e fs s 0 (λ i j p h. ap frame {y = i} (omega arith)) (λ i j p h. ap ans {y = i} (omega arith))
 
-      served : Runs step frame ans s o t
+      served : Leads step frame ans s o t
       served =
           let pairs = pairs-of (Free Clash frame) o (λ k m h l. free k m h l (decLt (place o k) (place o m))) in
           reordered step frame ans Good Clash stays commute (length fs) 0 o s t good pairs inside all in-list

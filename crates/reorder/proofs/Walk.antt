@@ -85,17 +85,17 @@ module _ {F : Type 0} (Clash : F → F → Type 0) (frame : ℕ → F) where
 
 module _ {S F O : Type 0} (step : S → F → O × S) (frame : ℕ → F) (ans : ℕ → O) where
   -- the places l are served from s: place x has the outcome `ans x`, and t is left
-  abbrev pub Runs : S → List ℕ → S → Type 0
-  Runs s [] t = s ≡ t
-  Runs s (x ∷ l) t = (step s (frame x) .0 ≡ ans x) × Runs (step s (frame x) .1) l t
+  abbrev pub Leads : S → List ℕ → S → Type 0
+  Leads s [] t = s ≡ t
+  Leads s (x ∷ l) t = (step s (frame x) .0 ≡ ans x) × Leads (step s (frame x) .1) l t
 
-  pub read-off : (o : List ℕ) (s t : S) → Runs s o t → (outcomes step s (map frame o) ≡ map ans o) × (final step s (map frame o) ≡ t)
+  pub read-off : (o : List ℕ) (s t : S) → Leads s o t → (outcomes step s (map frame o) ≡ map ans o) × (final step s (map frame o) ≡ t)
   read-off [] s t r = (refl, r)
   read-off (x ∷ o) s t r = let k = read-off o (step s (frame x) .1) t (r .1) in (ap₂ _∷_ (r .0) (k .0), k .1)
 
   -- the list itself, in its own order
   pub base : (d : F) (e : O) (fs : List F) (s : S) (k : ℕ) → ((i j : ℕ) → j ≡ k + i → i < length fs → frame j ≡ getD fs i d)
-      → ((i j : ℕ) → j ≡ k + i → i < length fs → ans j ≡ getD (outcomes step s fs) i e) → Runs s (from k (length fs)) (final step s fs)
+      → ((i j : ℕ) → j ≡ k + i → i < length fs → ans j ≡ getD (outcomes step s fs) i e) → Leads s (from k (length fs)) (final step s fs)
   base d e [] s k hf ha = refl
   base d e (f ∷ fs) s k hf ha =
       let is-f : frame k ≡ f = hf 0 k (omega arith) (omega arith) in
@@ -108,20 +108,20 @@ module _ {S F O : Type 0} (step : S → F → O × S) (frame : ℕ → F) (ans :
       (commute : (s : S) (f g : F) → Good s → ¬ Clash f g → Commutes step s f g) where
     -- the least place may be served first
     to-front : {x : ℕ} {q : List ℕ} (m : List·Memᴰ x q) (s t : S) → Good s → Pairs (Free Clash frame) q
-        → ((y : ℕ) → List·Memᴰ y q → x ≤ y) → Runs s (x ∷ rest m) t → Runs s q t
-    to-front {x} (List·Memᴰ·head {xs} e) s t g p low r = subst (λ z. Runs s (z ∷ xs) t) e r
+        → ((y : ℕ) → List·Memᴰ y q → x ≤ y) → Leads s (x ∷ rest m) t → Leads s q t
+    to-front {x} (List·Memᴰ·head {xs} e) s t g p low r = subst (λ z. Leads s (z ∷ xs) t) e r
     to-front {x} (List·Memᴰ·tail {x = y} {xs} m) s t g p low r =
         go (p .0 x m) (λ u. to-front m (step s (frame y) .1) t (stays s (frame y) g) (p .1) (λ z h. low z (List·Memᴰ·tail h)) u)
       where
-        go : Free Clash frame y x → (Runs (step s (frame y) .1) (x ∷ rest m) t → Runs (step s (frame y) .1) xs t) → Runs s (y ∷ xs) t
+        go : Free Clash frame y x → (Leads (step s (frame y) .1) (x ∷ rest m) t → Leads (step s (frame y) .1) xs t) → Leads s (y ∷ xs) t
         go (inl h) ih = let l = low y (List·Memᴰ·head refl) in absurd (omega arith)
         go (inr (h, a)) ih =
             let c = commute s (frame y) (frame x) g a in
-            (sym (c .first) ∙ r .1 .0, ih (c .second ∙ r .0, subst (λ u. Runs u (rest m) t) (sym (c .state)) (r .1 .1)))
+            (sym (c .first) ∙ r .1 .0, ih (c .second ∙ r .0, subst (λ u. Leads u (rest m) t) (sym (c .state)) (r .1 .1)))
 
     -- what holds of the places k .. k + m - 1 in their own order holds of them in the order q
     pub reordered : (m k : ℕ) (q : List ℕ) (s t : S) → Good s → Pairs (Free Clash frame) q → ((y : ℕ) → List·Memᴰ y q → (k ≤ y) × (y < k + m))
-        → ((i : ℕ) → k ≤ i → i < k + m → List·Memᴰ i q) → Runs s (from k m) t → Runs s q t
+        → ((i : ℕ) → k ≤ i → i < k + m → List·Memᴰ i q) → Leads s (from k m) t → Leads s q t
     reordered zero k [] s t g p inside all r = r
     reordered zero k (y ∷ q) s t g p inside all r = let h = inside y (List·Memᴰ·head refl) in absurd (omega arith)
     reordered (suc m) k q s t g p inside all r =

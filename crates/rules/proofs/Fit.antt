@@ -59,15 +59,15 @@ record Has (k : Kind) (c : List ℕ) (d : Cell) : Type 0 where
 uncounted : (x d : Cell) (c : List ℕ) → Alike d x → Has (record { first = x; counts = false }) c d
 uncounted x d c a = record { alike = a; rows = λ e. absurd (never e) }
 
-it-is : (x d : Cell) (c : List ℕ) → Named′.Cell x ≡ Named′.Cell d → Has (record { first = x; counts = false }) c d
-it-is x d c e =
+cell-is : (x d : Cell) (c : List ℕ) → Named′.Cell x ≡ Named′.Cell d → Has (record { first = x; counts = false }) c d
+cell-is x d c e =
     let i : d ≡ x = cc in
     uncounted x d c (rw i (record { cell = refl; item = refl; sized = refl; counted = λ b. refl }))
 
 names : (s : Names) (c : List ℕ) (d : Cell) → namedBy s c ≡ Named′.Cell d → Has (kind s) c d
-names N.Mask c d e = it-is Cells.Mask d c e
-names N.Mode c d e = it-is Cells.Mode d c e
-names N.Clock c d e = it-is Cells.Clock d c e
+names N.Mask c d e = cell-is Cells.Mask d c e
+names N.Mode c d e = cell-is Cells.Mode d c e
+names N.Clock c d e = cell-is Cells.Clock d c e
 names N.Channel c d e = uncounted (Cells.Constants 0) d c (constants-named d (byte c 3) e)
 names N.TablePart c d e = uncounted (Cells.Part 0 0) d c (part-named d (byte c 3) (byte c 4) e)
 names N.WholeTable c d e = uncounted (Cells.Table 0) d c (table-named d (byte c 3) e)

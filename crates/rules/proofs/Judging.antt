@@ -14,7 +14,7 @@ use Rattle.image.specs.Cell.{when, errorsNamed}
 use Rattle.rules.specs.declared.rule.Found.the-variants.{Nothing}
 use Rattle.rules.specs.Rules.{Command, byte, ruleOf, rowsNamed, zeroFrom, blank, warmth, rises}
 
--- ---- the table
+-- ---- the fourteen commands
 
 -- what the last arm of a match on k knows: k is the number of no command, each of which one arm more ruled out
 abbrev pub NoneOf : ℕ → Type 0 → List Command → Type 0

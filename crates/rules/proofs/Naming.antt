@@ -23,10 +23,10 @@ pub record Alike (d x : Cell) : Type 0 where
   pub sized : size d ≡ size x
   pub counted : (b : ℕ) → extent d b ≡ extent x b
 
-pub when-it : (t : Bool) (x d : Cell) → when t x ≡ Named′.Cell d → (t ≡ true) × (x ≡ d)
+pub when-cell : (t : Bool) (x d : Cell) → when t x ≡ Named′.Cell d → (t ≡ true) × (x ≡ d)
 unfolding when
-when-it true x d e = (refl, cc)
-when-it false x d e = absurd (let z : _≡_ {A = ℕ} 0 1 = cc in omega arith)
+when-cell true x d e = (refl, cc)
+when-cell false x d e = absurd (let z : _≡_ {A = ℕ} 0 1 = cc in omega arith)
 
 errors-alike : (k : ℕ) → k < 8 → Alike (Cells.Errors k) (Cells.Errors 0)
 errors-alike k h = record { cell = lt-ltb k 8 h; item = lt-ltb k 8 h; sized = refl; counted = λ b. refl }
@@ -34,25 +34,25 @@ errors-alike k h = record { cell = lt-ltb k 8 h; item = lt-ltb k 8 h; sized = re
 module _ (d : Cell) (n : ℕ) where
   pub constants-named : constantsNamed n ≡ Named′.Cell d → Alike d (Cells.Constants 0)
   unfolding constantsNamed
-  constants-named e = let p = when-it _ _ _ e in rw (← (p .1)) (record { cell = p .0; item = p .0; sized = refl; counted = λ b. refl })
+  constants-named e = let p = when-cell _ _ _ e in rw (← (p .1)) (record { cell = p .0; item = p .0; sized = refl; counted = λ b. refl })
 
   pub errors-named : errorsNamed n ≡ Named′.Cell d → Alike d (Cells.Errors 0)
   unfolding errorsNamed
   errors-named e =
-      let p = when-it _ _ _ e in
+      let p = when-cell _ _ _ e in
       let w = within-is 1 8 n (p .0) in
       rw (← (p .1)) (errors-alike _ (omega arith))
 
   pub table-named : tableNamed n ≡ Named′.Cell d → Alike d (Cells.Table 0)
   unfolding tableNamed
   table-named e =
-      let p = when-it _ _ _ e in
+      let p = when-cell _ _ _ e in
       rw (← (p .1)) (record { cell = refl; item = lt-ltb _ _ (index-below n (p .0)); sized = refl; counted = λ b. refl })
 
   pub part-named : (q : ℕ) → partNamed n q ≡ Named′.Cell d → Alike d (Cells.Part 0 0)
   unfolding partNamed
   part-named q e =
-      let p = when-it _ _ _ e in
+      let p = when-cell _ _ _ e in
       let b = and-both (isTable n) (within 1 11 q) (p .0) in
       let r = within-is 1 11 q (b .1) in
       let t : ltb (q - 1) 11 ≡ true = lt-ltb (q - 1) 11 (omega arith) in
@@ -65,7 +65,7 @@ Counted c d = Alike d (Cells.Errors 0) × (4 + 3 * byte c 4 ≡ length c)
 pub rows-named : (d : Cell) (c : List ℕ) → rowsNamed c ≡ Named′.Cell d → Counted c d
 unfolding rowsNamed
 rows-named d c e =
-    let p = when-it _ _ _ e in
+    let p = when-cell _ _ _ e in
     let b = and-both (within 1 8 (byte c 3)) (eqb (4 + 3 * byte c 4) (length c)) (p .0) in
     let w = within-is 1 8 (byte c 3) (b .0) in
     (rw (← (p .1)) (errors-alike _ (omega arith)), eqb-true _ _ (b .1))

@@ -1,4 +1,4 @@
--- The fourteen commands of document 01 ("Commands") as a table of rules, and what each column means. `c` is a body without its checksum. Its
+-- The fourteen commands of document 01 ("Commands"), a rule each, and what the fields of a rule mean. `c` is a body without its checksum. Its
 -- bytes are counted from 1, the address being byte 1, as document 01 and 001's layouts count them. Assumes nothing.
 use mathlib.Core.List.{List, [], _∷_}
 use mathlib.Core.Bool.{Bool, true, cond, _&&_, _||_}

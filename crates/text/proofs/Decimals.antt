@@ -11,7 +11,7 @@ use native.Mathlib.Omega.{arith}
 use lib.ListN.{length, getD, length-append, List·getD-append}
 use borrow.Author.Tests.{lt-ltb, le-ltb}
 use Rattle.laws.specs.Checks.{all, within}
-use Rattle.laws.proofs.Tests.{and-both, within-in}
+use Rattle.laws.proofs.Tests.{within-in, all-then}
 use Rattle.text.specs.Decimal.{decimalIn, decimal, readOn, numberOf}
 
 -- ---- the last digit
@@ -77,11 +77,6 @@ decimal-some =
     by-digits (λ n. 0 < length (decimal n)) (λ n h. rw (decimal-one n h) (omega arith)) (λ n h ih. omega (arith, decimal-longer n h))
 
 -- ---- which digits
-
-all-then : {A : Type 0} (t : A → Bool) (a b : List A) → all t a ≡ true → all t b ≡ true → all t (a ++ b) ≡ true
-unfolding all
-all-then t [] b g h = h
-all-then t (x ∷ a) b g h = let p = and-both (t x) (all t a) g in rw (p .0, all-then t a b (p .1) h)
 
 pub decimal-digits : (n : ℕ) → all (within 48 57) (decimal n) ≡ true
 unfolding all

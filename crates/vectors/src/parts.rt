@@ -18,7 +18,7 @@ fn line(m: &[u8], table: u32) {
 }
 
 // The bit is set in the table's word, and read back.
-fn mark(m: &mut [u8], k: u8, p: u8) -> bool {
+fn hold(m: &mut [u8], k: u8, p: u8) -> bool {
     if 16 <= k {
         return false;
     }
@@ -39,7 +39,7 @@ fn write(m: &mut [u8], table: u8, part: u8) -> bool {
     let named = Cell::part(table, part);
     match named {
         Named::Cell(c) => match c {
-            Cell::Part(k, p) => mark(m, k, p),
+            Cell::Part(k, p) => hold(m, k, p),
             _ => false,
         },
         Named::Nothing => false,

@@ -1,13 +1,16 @@
--- `izk::serve` meets its contract: each early return is the check that the definition has there, and what the contents are answered is what is
--- served. Assumes nothing.
+-- `izk::serve` meets its contract: each early return is the check that the definition has there, and what the contents' verdict is answered is
+-- what is served. Assumes nothing.
 use mathlib.Core.Path.{_≡_, sym, _∙_}
 use mathlib.Core.Bool.{true}
+use native.Mathlib.Omega.{arith}
 use lib.Dec.{lit≤}
 use lib.Seq.{length-take-le}
 use borrow.Author.Needs.{needs}
 use borrow.Author.Tests.{not-true, not-false}
 use Rattle.image.specs.Version.{current}
 use Rattle.image.specs.Usable.{usable}
+use Rattle.image.proofs.UsableFacts.{facts}
+use Rattle.rules.proofs.Fit.{recognised-fits}
 use Rattle.izk.specs.Heard.{heard}
 use Rattle.izk.proofs.Serving.{unusable-is-1, no-room-is-2}
 use Rattle.izk.proofs.Taking.{opened, refused-serves, taken-refuses, contents-short, answered-serves}
@@ -52,15 +55,24 @@ returns-3 c =
 array-share-prefix-work : tie.Need-array-share-prefix-work
 array-share-prefix-work c = opened _ _ _ _ (lit≤ tt) (c .before .before .take-apart .ensures) (c .if3 .left) .fits
 
-slice-aggregate-reply-to : tie.Need-slice-aggregate-reply-to
-slice-aggregate-reply-to c = sym (length-take-le _ _ (opened _ _ _ _ (lit≤ tt) (c .before .before .before .take-apart .ensures) (c .before .if3 .left) .fits))
+slice-aggregate-body : tie.Need-slice-aggregate-body
+slice-aggregate-body c = sym (length-take-le _ _ (opened _ _ _ _ (lit≤ tt) (c .before .before .before .take-apart .ensures) (c .before .if3 .left) .fits))
+
+slice-read-recognise : tie.Need-slice-read-recognise
+slice-read-recognise c =
+    let e = c .before .before .before .before .before .before in
+    omega (arith, facts current _ (is-usable e) .long-is)
+
+recognise-requires : tie.Need-recognise-requires
+recognise-requires c κs =
+    let n = c .before .before in
+    contents-short _ _ _ _ (lit≤ tt) (n .before .before .take-apart .ensures) (n .if3 .left)
 
 reply-to-requires : tie.Need-reply-to-requires
 reply-to-requires c κs =
-    let n = c .before .before .before in
-    let t = n .before .before in
-    let e = t .before .before in
-    (is-usable e, contents-short _ _ _ _ (lit≤ tt) (t .take-apart .ensures) (n .if3 .left), e .if2 .left)
+    let v = c .before .before in
+    let e = v .before .before .before .before .before .before .before in
+    (rw (v .recognise .ensures) (recognised-fits _ _), is-usable e, e .if2 .left)
 
 same-length-4 : tie.Need-same-length-4
 same-length-4 c = search needs
@@ -71,10 +83,12 @@ same-length-5 c = search needs
 returns-4 : tie.Need-returns-4
 returns-4 c =
     let k = c .before .before .before .before in
-    let n = k .before .before .before .before in
+    let v = k .before .before .before in
+    let n = v .before .before .before in
     let t = n .before .before in
     let e = t .before .before in
-    answered-serves _ _ _ _ (lit≤ tt) (t .take-apart .ensures) (n .if3 .left) _ _ _ _ _ (is-usable e) (e .if2 .left) (k .reply-to .ensures)
+    let answer = rw (v .recognise .ensures) at (k .reply-to .ensures) in
+    answered-serves _ _ _ _ (lit≤ tt) (t .take-apart .ensures) (n .if3 .left) _ _ _ _ _ (is-usable e) (e .if2 .left) answer
 
 pub serve-spec : {M : Type 1} → statement M
 serve-spec =
@@ -90,7 +104,9 @@ serve-spec =
     same-length-3
     returns-3
     array-share-prefix-work
-    slice-aggregate-reply-to
+    slice-aggregate-body
+    slice-read-recognise
+    recognise-requires
     reply-to-requires
     same-length-4
     same-length-5

@@ -33,7 +33,8 @@ store-requires : tie.Need-store-requires
 store-requires c κs =
     let a = c .before .before .before in
     let s = a .before .before .before .before in
-    (rw (tail-is (a .act .given .0 .0) (s .args .body .now)) (stores (s .args .cell) (s .args .body .now) (a .act .given .1) (s .pre .0)), s .pre .1)
+    let fit = stores (s .args .cell) (s .args .body .now) (a .act .given .1) (s .pre .0) in
+    (fit .cell, rw (tail-is (a .act .given .0 .0) (s .args .body .now)) (fit .room), s .pre .1)
 
 returns : tie.Need-returns
 returns c = search needs

@@ -14,7 +14,8 @@ use Rattle.output.proofs.Outcomes.{refused, filled}
 use Rattle.frame.specs.Digits.{allDigits}
 use Rattle.frame.specs.Apart.{lengthOk, endsOk, inner, contentsOf, apart}
 use Rattle.frame.proofs.Body.{chars-are, work-contents, work-length, work-ok}
-use Rattle.frame.proofs.Answers.{length-below, length-above, length-even, length-right, length-fails, ends-fail, digits-fail, sum-decides, apart-room, apart-checked}
+use Rattle.frame.proofs.Answers.{length-below, length-above, length-even, length-right, length-fails, ends-fail, digits-fail}
+use Rattle.frame.proofs.Answers.{sum-decides, apart-room, apart-checked}
 use Rattle.frame.proofs.apart.take_apart.Statement.{statement}
 use Rattle.frame.proofs.apart.take_apart.Tie as tie
 
@@ -58,19 +59,19 @@ work-long : (d : tie.After-bytes-of) → length (take (count d) (d .bytes-of .re
 work-long d = let l = long (d .before) in work-length (frameAt l) (low l) (high l) _ _ refl (d .bytes-of .ensures)
 
 -- where the checks come to the sum, it decides
-module _ (c : tie.After-checksum) where
+module _ (c : tie.After-checksum-of) where
   abbrev decoded : tie.After-bytes-of
   decoded = c .before .before
 
   abbrev sized : tie.Else4
   sized = long (decoded .before)
 
-  decided : (t : Bool) → eqb (getD (decoded .bytes-of .result) (count decoded) 0) (c .checksum .result) ≡ t
+  decided : (t : Bool) → eqb (getD (decoded .bytes-of .result) (count decoded) 0) (c .checksum-of .result) ≡ t
       → apart (frameAt sized) (outAt sized) ≡ cond t (written (outAt sized) (contentsOf (frameAt sized))) (refuse (outAt sized) 6)
   decided t e =
       apart-checked _ _ (room sized)
       ∙ sum-decides _ _ _ t (right-length sized) (right-ends (decoded .before .before .before .before)) (right-digits (decoded .before))
-      (work-ok _ (low sized) (high sized) _ _ refl (decoded .bytes-of .ensures) _ (c .checksum .ensures) ∙ e)
+      (work-ok _ (low sized) (high sized) _ _ refl (decoded .bytes-of .ensures) _ (c .checksum-of .ensures) ∙ e)
 
 -- ---- the needs
 
@@ -128,11 +129,11 @@ sub-k-2 c = omega arith
 array-share-prefix-work : tie.Need-array-share-prefix-work
 array-share-prefix-work c = omega arith
 
-slice-aggregate-checksum : tie.Need-slice-aggregate-checksum
-slice-aggregate-checksum c = sym (work-long (c .before))
+slice-aggregate-checksum-of : tie.Need-slice-aggregate-checksum-of
+slice-aggregate-checksum-of c = sym (work-long (c .before))
 
-checksum-requires : tie.Need-checksum-requires
-checksum-requires c κs = omega (arith, work-long (c .before))
+checksum-of-requires : tie.Need-checksum-of-requires
+checksum-of-requires c κs = omega (arith, work-long (c .before))
 
 array-read-if7 : tie.Need-array-read-if7
 array-read-if7 c = omega arith
@@ -182,8 +183,8 @@ take-apart-spec =
     sub-k
     sub-k-2
     array-share-prefix-work
-    slice-aggregate-checksum
-    checksum-requires
+    slice-aggregate-checksum-of
+    checksum-of-requires
     array-read-if7
     returns-7
     array-share-prefix-work-2

@@ -27,8 +27,8 @@ add-if3 c = omega arith
 returns-3 : tie.Need-returns-3
 returns-3 c = refused _ _ _ 2 (built-room _ _ (c .before .before .if1 .left) (c .before .if2 .left) (c .if3 .taken)) refl refl
 
-checksum-requires : tie.Need-checksum-requires
-checksum-requires c κs = omega arith
+checksum-of-requires : tie.Need-checksum-of-requires
+checksum-of-requires c κs = omega arith
 
 put-requires : tie.Need-put-requires
 put-requires c κs = omega arith
@@ -38,14 +38,14 @@ put-chars-requires c κs = omega arith
 
 -- two characters a byte, of the contents and of the checksum
 module _ (c : tie.After-put-chars) where
-  abbrev summed : tie.After-checksum
+  abbrev summed : tie.After-checksum-of
   summed = c .before .before .before .before .before .before
 
   abbrev contents : List ℕ
   contents = summed .before .before .before .before .before .before .args .contents .now
 
-  chars : (length (charsOf contents) ≡ 2 * length contents) × (length (charsOf (summed .checksum .result ∷ [])) ≡ 2)
-  chars = (length-chars contents, length-chars (summed .checksum .result ∷ []))
+  chars : (length (charsOf contents) ≡ 2 * length contents) × (length (charsOf (summed .checksum-of .result ∷ [])) ≡ 2)
+  chars = (length-chars contents, length-chars (summed .checksum-of .result ∷ []))
 
 put-byte-requires : tie.Need-put-byte-requires
 put-byte-requires c κs = omega (arith, chars (c .before .before .before))
@@ -73,7 +73,8 @@ returns-4 c =
     let first = p1 .put .ensures in
     let body = p2 .put-chars .ensures in
     let check = p3 .put-byte .ensures in
-    let l = frame-laid (a .contents .now) (a .out .now) _ _ _ _ _ _ _ _ _ _ _ (k .checksum .ensures) first body check (p4 .put2 .ensures) (p5 .put3 .ensures) in
+    let sum = k .checksum-of .ensures in
+    let l = frame-laid (a .contents .now) (a .out .now) _ _ _ _ _ _ _ _ _ _ _ sum first body check (p4 .put2 .ensures) (p5 .put3 .ensures) in
     filled _ _ _ _ _ e refl (omega (arith, l .past)) (l .laid)
 
 pub build-spec : {M : Type 1} → statement M
@@ -85,7 +86,7 @@ build-spec =
     mul-if3
     add-if3
     returns-3
-    checksum-requires
+    checksum-of-requires
     put-requires
     put-chars-requires
     put-byte-requires

@@ -23,11 +23,11 @@ loop-holds c = (omega arith, omega arith, refl)
 add-loop : tie.Need-add-loop Inv-loop μ-loop
 add-loop c = omega arith
 
-shared-slice-read-value : tie.Need-shared-slice-read-value Inv-loop μ-loop
-shared-slice-read-value c = omega arith
+shared-slice-read-value-of : tie.Need-shared-slice-read-value-of Inv-loop μ-loop
+shared-slice-read-value-of c = omega arith
 
-value-requires : tie.Need-value-requires Inv-loop μ-loop
-value-requires c κs =
+value-of-requires : tie.Need-value-of-requires Inv-loop μ-loop
+value-of-requires c κs =
     let l = c .before .before in
     let st = l .before .before in
     digit-at (st .args .s .now) (l .loop .i) (st .pre .1) (omega arith)
@@ -35,14 +35,14 @@ value-requires c κs =
 mul-work : tie.Need-mul-work Inv-loop μ-loop
 mul-work c = omega arith
 
-add-value : tie.Need-add-value Inv-loop μ-loop
-add-value c = omega arith
+add-value-of : tie.Need-add-value-of Inv-loop μ-loop
+add-value-of c = omega arith
 
-shared-slice-read-value-2 : tie.Need-shared-slice-read-value-2 Inv-loop μ-loop
-shared-slice-read-value-2 c = omega arith
+shared-slice-read-value-of-2 : tie.Need-shared-slice-read-value-of-2 Inv-loop μ-loop
+shared-slice-read-value-of-2 c = omega arith
 
-value-requires-2 : tie.Need-value-requires-2 Inv-loop μ-loop
-value-requires-2 c κs =
+value-of-requires-2 : tie.Need-value-of-requires-2 Inv-loop μ-loop
+value-of-requires-2 c κs =
     let l = c .before .before .before .before in
     let st = l .before .before in
     digit-at (st .args .s .now) (l .loop .i + 1) (st .pre .1) (omega arith)
@@ -67,7 +67,7 @@ loop-again c =
     let l = c .before .before .before .before .before in
     let s = l .before .before .args .s .now in
     let i = l .loop .i in
-    let b : 16 * valueOf (getD s i 0) + valueOf (getD s (i + 1) 0) ≡ 16 * c .before .before .value .result + c .value2 .result = omega arith in
+    let b : 16 * valueOf (getD s i 0) + valueOf (getD s (i + 1) 0) ≡ 16 * c .before .before .value-of .result + c .value-of2 .result = omega arith in
     let e = bytes-next s i (omega arith) ∙ ap (λ (n : ℕ). n ∷ bytesOf (drop (i + 2) s)) b in
     (omega arith, omega arith, lay-next _ _ _ _ _ _ e (l .loop .inv .2))
 
@@ -82,12 +82,12 @@ bytes-of-spec =
     μ-loop
     loop-holds
     add-loop
-    shared-slice-read-value
-    value-requires
+    shared-slice-read-value-of
+    value-of-requires
     mul-work
-    add-value
-    shared-slice-read-value-2
-    value-requires-2
+    add-value-of
+    shared-slice-read-value-of-2
+    value-of-requires-2
     add-work
     array-write-work
     add-i

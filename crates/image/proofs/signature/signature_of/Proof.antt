@@ -2,7 +2,7 @@
 use mathlib.Core.Path.{_∙_}
 use native.Mathlib.Omega.{arith}
 use borrow.Author.Needs.{needs}
-use Rattle.image.proofs.Storing.{item-room, item-few, signed-is}
+use Rattle.image.proofs.Storing.{item-room, item-few, summed-is}
 use Rattle.image.proofs.signature.signature_of.Statement.{statement}
 use Rattle.image.proofs.signature.signature_of.Tie as tie
 
@@ -37,7 +37,7 @@ returns : tie.Need-returns
 returns c =
     let z = c .before .before in
     let s = z .before .before .before in
-    c .sum .ensures ∙ signed-is (s .args .cell) (s .args .m .now) (s .pre .0) (z .before .offset .ensures) (z .size .ensures)
+    c .sum .ensures ∙ summed-is (s .args .cell) (s .args .m .now) (s .pre .0) (z .before .offset .ensures) (z .size .ensures)
 
 pub signature-of-spec : {M : Type 1} → statement M
 signature-of-spec =

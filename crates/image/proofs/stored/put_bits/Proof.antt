@@ -1,7 +1,8 @@
 -- A part's bit is set in its table's word; any other cell, known by its tag alone, touches nothing. Assumes nothing.
 use native.Mathlib.Omega.{arith}
 use borrow.Author.Needs.{needs}
-use Rattle.image.proofs.Storing.{no-bit, part-few}
+use Rattle.image.proofs.Cells.{part-few}
+use Rattle.image.proofs.Storing.{no-bit}
 use Rattle.image.proofs.stored.put_bits.Statement.{statement}
 use Rattle.image.proofs.stored.put_bits.Tie as tie
 

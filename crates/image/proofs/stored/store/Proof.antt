@@ -12,7 +12,7 @@ offset-requires c κs = search needs
 put-all-requires : tie.Need-put-all-requires
 put-all-requires c κs =
     let s = c .before .before .before .before in
-    omega (arith, store-room (s .pre .0) (c .before .offset .ensures), s .pre .1)
+    omega (arith, store-room (s .args .cell) (s .pre .0) (c .before .offset .ensures), s .pre .1)
 
 size-requires : tie.Need-size-requires
 size-requires c κs = search needs
@@ -23,7 +23,8 @@ sub-left c = search needs
 put-zeros-requires : tie.Need-put-zeros-requires
 put-zeros-requires c κs =
     let a = c .before .before .before .before .before .before in
-    omega (arith, store-room (a .before .before .before .pre .0) (a .offset .ensures))
+    let s = a .before .before .before in
+    omega (arith, store-room (s .args .cell) (s .pre .0) (a .offset .ensures))
 
 put-bits-requires : tie.Need-put-bits-requires
 put-bits-requires c κs = search needs

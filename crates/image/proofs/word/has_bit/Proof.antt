@@ -1,7 +1,7 @@
 -- A shifted one is a power of two, and masking by it tests the bit. Assumes nothing.
 use borrow.Author.Needs.{needs}
 use Rattle.laws.proofs.Bits.{one-shifted}
-use Rattle.image.proofs.Words.{mask-test}
+use Rattle.image.proofs.Masks.{mask-test}
 use Rattle.image.proofs.word.has_bit.Statement.{statement}
 use Rattle.image.proofs.word.has_bit.Tie as tie
 

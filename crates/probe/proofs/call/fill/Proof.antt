@@ -1,4 +1,4 @@
--- `fill` is safe and ends. Assumes nothing.
+-- The index stays within the output, which keeps its length. Assumes nothing.
 use mathlib.Core.Path.{_≡_}
 use Prim.Native.Nat.{_-_}
 use lib.ListN.{length}

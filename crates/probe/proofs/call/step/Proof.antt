@@ -1,4 +1,4 @@
--- `step` is safe, and each record moves on. Assumes nothing.
+-- A record has two bytes at the least and ends within the script, so that every step moves on. Assumes nothing.
 use mathlib.Core.Path.{sym}
 use lib.Seq.{length-take-le}
 use borrow.Author.Needs.{needs}

@@ -1,4 +1,4 @@
--- Each arm is a command of the list; what the last arm has ruled out is in no command. Assumes nothing.
+-- Each arm is a command of the list, and the last arm has ruled out the number of every one. Assumes nothing.
 use borrow.Author.Needs.{needs}
 use Rattle.rules.specs.Rules.{commands, ruleOf}
 use Rattle.rules.proofs.Judging.{no-command}

@@ -7,8 +7,8 @@ use native.Mathlib.Omega.{arith}
 use borrow.Author.Needs.{needs}
 use Rattle.frame.specs.Digits.{isDigit}
 use Rattle.frame.proofs.Chars.{digit-is, value-low, value-high}
-use Rattle.frame.proofs.digits.value.Statement.{statement}
-use Rattle.frame.proofs.digits.value.Tie as tie
+use Rattle.frame.proofs.digits.value_of.Statement.{statement}
+use Rattle.frame.proofs.digits.value_of.Tie as tie
 
 -- the digits' least and greatest
 bounds : (c : ℕ) → isDigit c ≡ true → (48 ≤ c) × (c ≤ 70)
@@ -30,5 +30,5 @@ returns c = (sym (value-low _ (c .if1 .taken)), omega arith)
 returns-2 : tie.Need-returns-2
 returns-2 c = (sym (value-high _ (c .if1 .left)), omega (arith, bounds _ (c .before .pre)))
 
-pub value-spec : {M : Type 1} → statement M
-value-spec = tie.close (tie.spec sub-result sub-result-2 returns returns-2)
+pub value-of-spec : {M : Type 1} → statement M
+value-of-spec = tie.close (tie.spec sub-result sub-result-2 returns returns-2)

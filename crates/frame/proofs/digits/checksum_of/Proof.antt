@@ -6,8 +6,8 @@ use lib.ListN.{length, drop}
 use Rattle.laws.specs.Bytes.{sumOf}
 use Rattle.laws.proofs.Sums.{sum-next, sum-done}
 use Rattle.frame.specs.Digits.{checksumOf}
-use Rattle.frame.proofs.digits.checksum.Statement.{statement}
-use Rattle.frame.proofs.digits.checksum.Tie as tie
+use Rattle.frame.proofs.digits.checksum_of.Statement.{statement}
+use Rattle.frame.proofs.digits.checksum_of.Tie as tie
 
 abbrev Inv-loop : tie.InvT-loop
 Inv-loop s sum₀ i₀ sum i = (i ≤ length s) × (sum ≤ 255 * i) × (sum + sumOf (drop i s) ≡ sumOf s)
@@ -54,8 +54,8 @@ returns c =
     let e : c .before .loop .sum ≡ sumOf s = omega (arith, sum-done s (c .before .loop .i) (omega arith)) in
     ap (λ (n : ℕ). (255 - n % 256 + 1) % 256) e
 
-pub checksum-spec : {M : Type 1} → statement M
-checksum-spec =
+pub checksum-of-spec : {M : Type 1} → statement M
+checksum-of-spec =
     tie.close
     (tie.spec
     Inv-loop
