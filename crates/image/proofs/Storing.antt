@@ -14,32 +14,31 @@ use Rattle.image.specs.declared.cell.Cell.the-variants.{Mask, Mode, Cloc
 use Rattle.image.specs.Version.{current, imageLength}
 use Rattle.image.specs.Cell.{offset, size, isCell, isItem}
 use Rattle.image.specs.Signature.{fullSum, signature}
-use Rattle.image.specs.Stored.{touchedAll, bits, touches, stored}
+use Rattle.image.specs.Stored.{Touch, touchedAll, bits, touches, stored}
 use Rattle.image.proofs.Cells.{placed}
 use Rattle.image.proofs.cell.Cell.{the-type}
 use Rattle.image.proofs.Stretches.{item-inside}
+use Rattle.image.proofs.Touches.{Bit, no-bit, part-bit, bit-view}
 
 -- ---- a part's bit
 
 -- a match's last arm knows the tag alone; a part has tag 5
-pub no-bit : (d : Cell) (m : List ℕ) → OneOf (0 ∷ 1 ∷ 2 ∷ 3 ∷ 4 ∷ 6 ∷ []) (tagOf the-type d) → m ≡ touchedAll [] [] (bits d) m
-no-bit Mask m h = refl
-no-bit Mode m h = refl
-no-bit Clock m h = refl
-no-bit (Constants c) m h = refl
-no-bit (Errors e) m h = refl
-no-bit (Part k p) m h = absurd (miss (0 ∷ 1 ∷ 2 ∷ 3 ∷ 4 ∷ 6 ∷ []) 5 tt h)
-no-bit (Table k) m h = refl
+pub untouched : (d : Cell) (m : List ℕ) → OneOf (0 ∷ 1 ∷ 2 ∷ 3 ∷ 4 ∷ 6 ∷ []) (tagOf the-type d) → m ≡ touchedAll [] [] (bits d) m
+untouched Mask m h = refl
+untouched Mode m h = refl
+untouched Clock m h = refl
+untouched (Constants c) m h = refl
+untouched (Errors e) m h = refl
+untouched (Part k p) m h = absurd (miss (0 ∷ 1 ∷ 2 ∷ 3 ∷ 4 ∷ 6 ∷ []) 5 tt h)
+untouched (Table k) m h = refl
 
 -- it is all that is touched, whatever the cell's bytes were and are
 bits-alone : (old new : List ℕ) (d : Cell) (m : List ℕ) → touchedAll [] [] (bits d) m ≡ touchedAll old new (touches current d) m
-bits-alone old new Mask m = refl
-bits-alone old new Mode m = refl
-bits-alone old new Clock m = refl
-bits-alone old new (Constants c) m = refl
-bits-alone old new (Errors e) m = refl
-bits-alone old new (Part k p) m = refl
-bits-alone old new (Table k) m = refl
+bits-alone old new d m = go (bit-view d)
+  where
+    go : {d : Cell} {ts : List Touch} → Bit d ts → touchedAll [] [] ts m ≡ touchedAll old new ts m
+    go no-bit = refl
+    go part-bit = refl
 
 -- ---- the cell's bytes
 

@@ -133,11 +133,11 @@ module _ (o n : List ℕ) where
 -- ---- the bit that goes with a part
 
 -- a cell has no bit, or is a part and has one in its table's word
-data Bit : Cell → List Touch → Type 0 where
+pub data Bit : Cell → List Touch → Type 0 where
   no-bit : {d : Cell} → Bit d []
   part-bit : {k p : ℕ} → Bit (Part k p) (bitOf k p ∷ [])
 
-bit-view : (d : Cell) → Bit d (bits d)
+pub bit-view : (d : Cell) → Bit d (bits d)
 bit-view Mask = no-bit
 bit-view Mode = no-bit
 bit-view Clock = no-bit

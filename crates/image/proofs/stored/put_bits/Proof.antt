@@ -2,7 +2,7 @@
 use native.Mathlib.Omega.{arith}
 use borrow.Author.Needs.{needs}
 use Rattle.image.proofs.Cells.{part-few}
-use Rattle.image.proofs.Storing.{no-bit}
+use Rattle.image.proofs.Storing.{untouched}
 use Rattle.image.proofs.stored.put_bits.Statement.{statement}
 use Rattle.image.proofs.stored.put_bits.Tie as tie
 
@@ -43,7 +43,7 @@ returns c =
     (c .before .before .put-word .ensures)
 
 returns-2 : tie.Need-returns-2
-returns-2 c = no-bit (c .before .before .args .cell) _ (c .match .keys2)
+returns-2 c = untouched (c .before .before .args .cell) _ (c .match .keys2)
 
 pub put-bits-spec : {M : Type 1} → statement M
 put-bits-spec =
