@@ -1,18 +1,17 @@
 -- Frames that pass checks 3 to 6, and those that do not: what a caller of taking apart has in hand. Assumes nothing.
 use mathlib.Core.Path.{_≡_, refl, sym, _∙_}
-use mathlib.Core.List.{List, _∷_}
+use mathlib.Core.List.{List}
 use mathlib.Core.Bool.{true}
 use Prim.Native.Nat.{ℕ, _%_, _≤_}
 use native.Mathlib.Omega.{arith}
 use lib.ListN.{length}
-use lib.Dec.{leb}
 use borrow.Author.Tests.{leb-true}
-use Rattle.laws.specs.Checks.{Check, check, judged, firstFailing, risingFrom}
+use Rattle.laws.specs.Checks.{judged, firstFailing, AllPass, risingFrom}
 use Rattle.laws.proofs.Checks as Checks
-use Rattle.laws.proofs.Checks.{AllPass, Judged, judge, judged-map, judged-passed, none-fails}
+use Rattle.laws.proofs.Checks.{Judged, judge, judged-number, judged-passed, none-fails}
 use Rattle.output.specs.Output.{OutputAfter, refuse, written}
 use Rattle.frame.specs.Digits.{allDigits}
-use Rattle.frame.specs.Apart.{endsOk, inner, contentsOf, sumOk, frameChecks, apart}
+use Rattle.frame.specs.Apart.{endsOk, inner, contentsOf, sumOk, frameChecks, apartChecks, apart}
 use Rattle.frame.proofs.Body.{length-contents}
 use Rattle.frame.proofs.Answers.{length-is, apart-checked}
 
@@ -57,15 +56,19 @@ pub data Taken (f out : List ℕ) : Type 1 where
       → ((A : Type 0) (no : ℕ → A) (after : A) → judged no (frameChecks f) after ≡ no n) → Taken f out
 
 pub taken : (f out : List ℕ) → 132 ≤ length out → Taken f out
+unfolding firstFailing
 taken f out room = go (judge (frameChecks f))
   where
     go : Judged (frameChecks f) → Taken f out
     go (Checks.passed p) = passed p (apart-passed f out room p)
-    go (Checks.failed n e h) = failed n some e (apart-checked f out room ∙ h _ (refuse out) (written out (contentsOf f))) h
+    go (Checks.failed c i h) = failed (c .number) some first (apart-checked f out room ∙ h _ (refuse out) (written out (contentsOf f))) h
       where
-        some : n ≡ 0 → ⊥
+        first : firstFailing (frameChecks f) ≡ c .number
+        first = h ℕ (λ n. n) 0
+
+        some : c .number ≡ 0 → ⊥
         some z =
-            let p = none-fails 2 (frameChecks f) (rising f) (e ∙ z) in
+            let p = none-fails 2 (frameChecks f) (rising f) (first ∙ z) in
             let a = sym (judged-passed (λ m. 1) (frameChecks f) 0 p) ∙ h ℕ (λ m. 1) 0 in
             omega arith
 
@@ -73,6 +76,7 @@ taken f out room = go (judge (frameChecks f))
 pub taken-0 : (f out : List ℕ) → apart f out .number ≡ 0 → (132 ≤ length out) × AllPass (frameChecks f)
 unfolding apart firstFailing risingFrom
 taken-0 f out z =
-    let cs : List Check = check 2 (leb 132 (length out)) ∷ frameChecks f in
-    let p : AllPass cs = none-fails 1 cs (rising f) (sym (judged-map (λ (a : OutputAfter). a .number) (refuse out) cs (written out (contentsOf f))) ∙ z) in
+    let cs = apartChecks f out in
+    let n = judged-number (λ (a : OutputAfter). a .number) (refuse out) cs (written out (contentsOf f)) (λ n. refl) (λ p. refl) in
+    let p : AllPass cs = none-fails 1 cs (rising f) (sym n ∙ z) in
     (leb-true 132 (length out) (p .0), p .1)

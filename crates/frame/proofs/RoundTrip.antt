@@ -8,8 +8,8 @@ use lib.ListN.{length, getD, take, drop, length-append, take-append-drop}
 use lib.Seq.{take-at, getD-at, getD-append-add, take-suc, take-all, take-add, drop-length}
 use borrow.Author.Tests.{eq-eqb, eqb-true}
 use Rattle.laws.specs.Bytes.{slice}
+use Rattle.laws.specs.Checks.{AllPass}
 use Rattle.laws.proofs.Walks.{next2}
-use Rattle.laws.proofs.Checks.{AllPass}
 use Rattle.output.specs.Output.{written}
 use Rattle.frame.specs.Digits.{allDigits, charsOf, checksumOf}
 use Rattle.frame.specs.Apart.{lengthOk, endsOk, inner, bodyOf, contentsOf, sumOk, frameChecks, apart}

@@ -37,5 +37,9 @@ sumOk f = eqb (getD (bodyOf f) (length (bodyOf f) - 1) 0) (checksumOf (contentsO
 unfoldable pub frameChecks : List ℕ → List Check
 frameChecks f = check 3 (lengthOk (length f)) ∷ (check 4 (endsOk f) ∷ (check 5 (allDigits (inner f)) ∷ (check 6 (sumOk f) ∷ [])))
 
+-- taking apart makes check 2 before them
+abbrev pub apartChecks : List ℕ → List ℕ → List Check
+apartChecks f out = check 2 (leb 132 (length out)) ∷ frameChecks f
+
 unfoldable pub apart : List ℕ → List ℕ → OutputAfter
-apart f out = judged (refuse out) (check 2 (leb 132 (length out)) ∷ frameChecks f) (written out (contentsOf f))
+apart f out = judged (refuse out) (apartChecks f out) (written out (contentsOf f))

@@ -6,7 +6,7 @@ use Prim.Native.Nat.{ℕ}
 use lib.ListN.{length}
 use lib.Dec.{eqb}
 use Rattle.laws.specs.Bytes.{lay, zeros}
-use Rattle.laws.specs.Checks.{check, judged}
+use Rattle.laws.specs.Checks.{Check, check, judged}
 use Rattle.image.specs.Version.{Version, versionNumber, imageLength}
 
 -- mark, version, the address, all else 0
@@ -21,9 +21,11 @@ pub record FreshAfter : Type 0 where
 abbrev pub unfresh : List ℕ → ℕ → FreshAfter
 unfresh m n = record { number = n; image = m }
 
+abbrev pub freshChecks : Version → List ℕ → ℕ → List Check
+freshChecks v m a = check 1 (eqb (length m) (imageLength v)) ∷ (check 11 (not (eqb a 0)) ∷ [])
+
 unfoldable pub freshened : Version → List ℕ → ℕ → FreshAfter
-freshened v m a =
-    judged (unfresh m) (check 1 (eqb (length m) (imageLength v)) ∷ (check 11 (not (eqb a 0)) ∷ [])) (record { number = 0; image = fresh v a })
+freshened v m a = judged (unfresh m) (freshChecks v m a) (record { number = 0; image = fresh v a })
 
 -- a function that returned a number and left an image has done so
 pub record Freshens (a : FreshAfter) (r : ℕ) (left : List ℕ) : Type 0 where

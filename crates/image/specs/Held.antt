@@ -3,7 +3,7 @@ use mathlib.Core.List.{List, [], _∷_}
 use mathlib.Core.Bool.{cond}
 use Prim.Native.Nat.{ℕ, zero, suc, _-_}
 use lib.Dec.{eqb}
-use Rattle.laws.specs.Checks.{check, judged}
+use Rattle.laws.specs.Checks.{Check, check, judged}
 use Rattle.laws.specs.Bits.{bit, onesIn}
 use Rattle.image.specs.declared.held.Held.{Held}
 use Rattle.image.specs.Version.{Version}
@@ -27,5 +27,8 @@ heldOf w = record { number = 0; parts = onesIn 11 w; missing = lowestMissing w }
 abbrev pub unheld : ℕ → Held
 unheld n = record { number = n; parts = 0; missing = 0 }
 
+abbrev pub heldChecks : Version → List ℕ → ℕ → List Check
+heldChecks v m t = check 1 (usable v m) ∷ (check 10 (isTable t) ∷ [])
+
 unfoldable pub heldParts : Version → List ℕ → ℕ → Held
-heldParts v m t = judged unheld (check 1 (usable v m) ∷ (check 10 (isTable t) ∷ [])) (heldOf (tableWord m (tableIndex t)))
+heldParts v m t = judged unheld (heldChecks v m t) (heldOf (tableWord m (tableIndex t)))

@@ -9,7 +9,7 @@ use native.Mathlib.Omega.{arith}
 use lib.ListN.{length, getD, drop}
 use Rattle.laws.specs.Bytes.{slice, padded}
 use Rattle.laws.specs.Bits.{bit}
-use Rattle.laws.proofs.Bytes.{In, lay-none, slice-same}
+use Rattle.laws.proofs.Bytes.{In, slice-same}
 use Rattle.frame.specs.Apart.{contentsOf}
 use Rattle.image.specs.declared.cell.Cell.{Cell}
 use Rattle.image.specs.declared.cell.Cell.the-variants.{Part}
@@ -28,32 +28,10 @@ use Rattle.rules.specs.declared.verdict.Verdict.{Verdict}
 use Rattle.rules.specs.declared.verdict.Verdict.the-variants.{Refused, Accepted}
 use Rattle.rules.specs.Fits.{FitAccepted}
 use Rattle.command.specs.Act.{leaves}
-use Rattle.command.specs.Reply.{refusal, done, BuffersAfter, sent}
+use Rattle.command.specs.Reply.{done}
 use Rattle.izk.specs.Heard.{answered, Hearing, Lawful}
 use Rattle.izk.specs.Block.{served}
 use Rattle.izk.proofs.Serving.{Way, early, through, way, served-is}
-
--- ---- a refused frame changes nothing
-
-pub record Unchanged (a : BuffersAfter) (m o : List ℕ) : Type 0 where
-  pub len : a .len ≡ 0
-  pub image : a .image ≡ m
-  pub out : a .out ≡ o
-
-pub refused-changes-nothing : (ear : Hearing) (v : Version) (f m out : List ℕ) → served ear v f m out .number ≢ 0 → Unchanged (served ear v f m out) m out
-unfolding answered
-refused-changes-nothing ear v f m out n = go (way ear v f m out)
-  where
-    same : (k : ℕ) → Unchanged (sent (refusal k m) out) m out
-    same k = record { len = refl; image = refl; out = lay-none out 0 }
-
-    done-same : (r : Verdict) → done v r (contentsOf f) m .number ≢ 0 → Unchanged (sent (done v r (contentsOf f) m) out) m out
-    done-same (Refused k) z = same k
-    done-same (Accepted e a d) z = absurd (z refl)
-
-    go : Way ear v f m out → Unchanged (served ear v f m out) m out
-    go (early k i e) = rw e (same k)
-    go (through u r e) = rw e (done-same (ear (address m) f) (rw e at n))
 
 -- ---- acceptance rests on the frame and the image's address alone
 

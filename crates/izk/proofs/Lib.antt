@@ -7,3 +7,4 @@ pub mod ReadBack
 pub mod OneOutcome
 pub mod HeldAfter
 pub mod Taking
+pub mod Refusals

@@ -6,8 +6,9 @@ use Prim.Native.Nat.{ℕ, _≤_}
 use native.Mathlib.Omega.{arith}
 use lib.ListN.{length, take}
 use lib.Seq.{take-length}
+use Rattle.laws.specs.Checks.{AllPass}
 use Rattle.laws.proofs.Bytes.{length-lay, lay-none, lay-take}
-use Rattle.laws.proofs.Checks.{AllPass, judged-passed}
+use Rattle.laws.proofs.Checks.{judged-passed}
 use Rattle.output.specs.declared.answer.Answer.{Answer}
 use Rattle.output.specs.Output.{Does}
 use Rattle.frame.specs.Apart.{apart, contentsOf, frameChecks}

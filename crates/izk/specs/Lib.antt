@@ -2,3 +2,4 @@ pub mod Heard
 pub mod Block
 pub mod Frames
 pub mod Useless
+pub mod Refusals

@@ -1,5 +1,6 @@
 -- Checks, in document 01's sense: each has a refusal number, and the first that fails decides. Assumes nothing.
-use mathlib.Core.List.{List, [], _∷_}
+use mathlib.Core.Path.{_≡_}
+use mathlib.Core.List.{List, [], _∷_, _++_}
 use mathlib.Core.Bool.{Bool, true, false, cond, _&&_}
 use Prim.Native.Nat.{ℕ, zero, suc}
 use lib.Dec.{leb, ltb, eqb}
@@ -19,6 +20,24 @@ judged refuse (c ∷ cs) after = cond (c .passes) (judged refuse cs after) (refu
 -- its number, 0 where none fails
 unfoldable pub firstFailing : List Check → ℕ
 firstFailing cs = judged (λ n. n) cs 0
+
+-- every check of the list passes
+abbrev pub AllPass : List Check → Type 0
+AllPass [] = Unit {0}
+AllPass (c ∷ cs) = (c .passes ≡ true) × AllPass cs
+
+-- c fails, and all that stand before it in the list pass
+pub record First (c : Check) (cs : List Check) : Type 0 where
+  pub before : List Check
+  pub behind : List Check
+  pub split : cs ≡ before ++ (c ∷ behind)
+  pub passed : AllPass before
+  pub fails : c .passes ≡ false
+
+-- n is what the list gives: 0 where none fails, else the number of the first that does
+pub data Gives (cs : List Check) (n : ℕ) : Type 0 where
+  none : AllPass cs → n ≡ 0 → Gives cs n
+  one : (c : Check) → First c cs → n ≡ c .number → Gives cs n
 
 -- each number is above the one before it, the first above n: then the first check that fails is the lowest that does
 unfoldable pub risingFrom : ℕ → List Check → Bool

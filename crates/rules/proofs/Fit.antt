@@ -10,9 +10,9 @@ use lib.ListN.{length, getD, drop, length-drop}
 use lib.Seq.{getD-drop}
 use lib.Dec.{leb, eqb}
 use borrow.Author.Tests.{leb-true, eqb-true}
-use Rattle.laws.specs.Checks.{Check, judged, all}
+use Rattle.laws.specs.Checks.{Check, judged, AllPass, all}
 use Rattle.laws.proofs.Tests.{and-both, within-is, never}
-use Rattle.laws.proofs.Checks.{AllPass, Judged, passed, failed, judge, judged-passed}
+use Rattle.laws.proofs.Checks.{Judged, passed, failed, judge, judged-passed}
 use Rattle.image.specs.declared.cell.Cell.{Cell}
 use Rattle.image.specs.declared.cell.Cell.the-variants as Cells
 use Rattle.image.specs.declared.cell.Named.{Named}

@@ -4,3 +4,4 @@ pub mod Numbers
 pub mod Warmth
 pub mod Judging
 pub mod Following
+pub mod FirstCheck

@@ -1,7 +1,7 @@
 -- No refusal is numbered 0, nor by more than two digits. Assumes nothing.
 use mathlib.Core.List.{List, [], _∷_}
 use mathlib.Core.Bool.{Bool, true, false, cond}
-use Prim.Native.Nat.{ℕ, _<_}
+use Prim.Native.Nat.{ℕ}
 use lib.Dec.{lit<}
 use Rattle.laws.specs.Checks.{Check, judged}
 use Rattle.image.specs.declared.cell.Cell.{Cell}

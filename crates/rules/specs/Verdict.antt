@@ -1,9 +1,10 @@
 -- What a body is found to be: checks 7 to 11 of document 01 ("Refusal numbers"). Assumes nothing.
 use mathlib.Core.List.{List, [], _∷_}
+use mathlib.Core.Bool.{Bool, true, false}
 use Prim.Native.Nat.{ℕ, _+_}
 use lib.ListN.{length}
 use lib.Dec.{eqb}
-use Rattle.laws.specs.Checks.{check, judged}
+use Rattle.laws.specs.Checks.{Check, check, judged}
 use Rattle.image.specs.declared.cell.Named.{Named}
 use Rattle.image.specs.declared.cell.Named.the-variants as Named′
 use Rattle.rules.specs.declared.rule.Found.{Found}
@@ -33,3 +34,45 @@ sought ls c = triedIf (ruleOf (byte c 2) ls) c
 -- check 7: a block answers to its own address, and looks at nothing else of its image
 unfoldable pub recognised : ℕ → List ℕ → Verdict
 recognised a c = judged Refused (check 7 (eqb (byte c 1) a) ∷ []) (sought commands c)
+
+-- ---- the same five checks one below the other, each a test of its own: a later one asks nothing where an earlier one has failed
+
+abbrev pub numberOf : Verdict → ℕ
+numberOf (Refused n) = n
+numberOf (Accepted e a d) = 0
+
+abbrev pub isFound : Found → Bool
+isFound Found′.Nothing = false
+isFound (Found′.Rule r) = true
+
+abbrev pub isNamed : Named → Bool
+isNamed Named′.Nothing = false
+isNamed (Named′.Cell d) = true
+
+-- a test by the rule of the body's command, if there is one
+abbrev pub ifFound : Found → (Rule → Bool) → Bool
+ifFound Found′.Nothing t = true
+ifFound (Found′.Rule r) t = t r
+
+abbrev pub ruleFor : List ℕ → Found
+ruleFor c = ruleOf (byte c 2) commands
+
+-- check 8: the command is served
+unfoldable pub isServed : List ℕ → Bool
+isServed c = isFound (ruleFor c)
+
+-- check 9: the body has its command's length, checksum included
+unfoldable pub isLong : List ℕ → Bool
+isLong c = ifFound (ruleFor c) (λ r. longOk (r .long) (length c + 1))
+
+-- check 10: channel, table, part and row count name something
+unfoldable pub namesOne : List ℕ → Bool
+namesOne c = ifFound (ruleFor c) (λ r. isNamed (namedBy (r .names) c))
+
+-- check 11: the values are inside their rules
+unfoldable pub valuesFit : List ℕ → Bool
+valuesFit c = ifFound (ruleFor c) (λ r. valuesOk (r .values) c)
+
+abbrev pub bodyChecks : ℕ → List ℕ → List Check
+bodyChecks a c =
+    check 7 (eqb (byte c 1) a) ∷ (check 8 (isServed c) ∷ (check 9 (isLong c) ∷ (check 10 (namesOne c) ∷ (check 11 (valuesFit c) ∷ []))))

@@ -1,0 +1,133 @@
+-- First check first, and a refusal alters nothing: of each of the five, by laws on lists of checks. Assumes nothing.
+use mathlib.Core.Path.{_≡_, refl, ap, _∙_}
+use mathlib.Core.Logic.{_≢_}
+use mathlib.Core.List.{List, [], _∷_, List·Memᴰ}
+use mathlib.Core.Bool.{true, false}
+use Prim.Native.Nat.{ℕ, _≤_}
+use lib.ListN.{length}
+use lib.Dec.{leb}
+use Rattle.laws.specs.Checks.{Check, check, judged, firstFailing, Gives, risingFrom}
+use Rattle.laws.proofs.Bytes.{lay-none}
+use Rattle.laws.proofs.Checks.{judged-map, gives-first, judged-gives, judged-refused, lowest-given}
+use Rattle.output.specs.Output.{OutputAfter, refuse, written}
+use Rattle.frame.specs.Apart.{contentsOf, frameChecks, apartChecks, apart}
+use Rattle.frame.specs.Built.{frameOf, buildChecks, built}
+use Rattle.image.specs.declared.held.Held.{Held}
+use Rattle.image.specs.Version.{Version, current}
+use Rattle.image.specs.Usable.{usable, address}
+use Rattle.image.specs.Fresh.{FreshAfter, unfresh, freshChecks, freshened}
+use Rattle.image.specs.Held.{unheld, heldOf, heldChecks, heldParts}
+use Rattle.rules.specs.declared.verdict.Verdict.{Verdict}
+use Rattle.rules.specs.declared.verdict.Verdict.the-variants.{Refused, Accepted}
+use Rattle.rules.specs.Verdict.{recognised, numberOf}
+use Rattle.rules.proofs.FirstCheck.{recognised-number}
+use Rattle.command.specs.Reply.{refusal, done, BuffersAfter, sent}
+use Rattle.izk.specs.Heard.{Hearing, heard, answered}
+use Rattle.izk.specs.Block.{served}
+use Rattle.izk.specs.Refusals.{serveChecks}
+
+-- ---- first check first: each gives what its list of checks gives
+
+done-number : (v : Version) (r : Verdict) (c m : List ℕ) → done v r c m .number ≡ numberOf r
+done-number v (Refused n) c m = refl
+done-number v (Accepted e a d) c m = refl
+
+serve-number : (v : Version) (f m out : List ℕ) → served heard v f m out .number ≡ firstFailing (serveChecks v f m out)
+unfolding served answered heard serveChecks frameChecks firstFailing judged
+serve-number v f m out =
+    judged-map (λ (b : BuffersAfter). b .number) (λ n. sent (refusal n m) out) outer (sent (answered heard v f m) out)
+    ∙ ap (λ (n : ℕ). judged (λ n. n) outer n) (
+      done-number v (heard (address m) f) (contentsOf f) m ∙ judged-map numberOf Refused (frameChecks f) (recognised (address m) (contentsOf f))
+      ∙ ap (λ (n : ℕ). judged (λ n. n) (frameChecks f) n) (recognised-number (address m) (contentsOf f))
+    )
+  where
+    outer : List Check
+    outer = check 1 (usable v m) ∷ (check 2 (leb 269 (length out)) ∷ [])
+
+pub serve-gives : (v : Version) (f m out : List ℕ) → Gives (serveChecks v f m out) (served heard v f m out .number)
+serve-gives v f m out = rw (serve-number v f m out) (gives-first (serveChecks v f m out))
+
+pub take-apart-gives : (f out : List ℕ) → Gives (apartChecks f out) (apart f out .number)
+unfolding apart
+take-apart-gives f out = judged-gives (λ (a : OutputAfter). a .number) (refuse out) (apartChecks f out) (written out (contentsOf f)) (λ n. refl) (λ p. refl)
+
+pub build-gives : (c out : List ℕ) → Gives (buildChecks c out) (built c out .number)
+unfolding built
+build-gives c out = judged-gives (λ (a : OutputAfter). a .number) (refuse out) (buildChecks c out) (written out (frameOf c)) (λ n. refl) (λ p. refl)
+
+pub fresh-gives : (v : Version) (m : List ℕ) (a : ℕ) → Gives (freshChecks v m a) (freshened v m a .number)
+unfolding freshened
+fresh-gives v m a = judged-gives (λ (x : FreshAfter). x .number) (unfresh m) (freshChecks v m a) _ (λ n. refl) (λ p. refl)
+
+pub held-gives : (v : Version) (m : List ℕ) (t : ℕ) → Gives (heldChecks v m t) (heldParts v m t .number)
+unfolding heldParts heldOf
+held-gives v m t = judged-gives (λ (h : Held). h .number) unheld (heldChecks v m t) _ (λ n. refl) (λ p. refl)
+
+-- in four of the five the numbers rise along the list, in building they do not
+pub lists-rise : (v : Version) (f m out c : List ℕ) (a t : ℕ)
+    → (risingFrom 0 (serveChecks v f m out) ≡ true) × (risingFrom 0 (apartChecks f out) ≡ true) × (risingFrom 0 (freshChecks v m a) ≡ true)
+    × (risingFrom 0 (heldChecks v m t) ≡ true) × (risingFrom 0 (buildChecks c out) ≡ false)
+unfolding serveChecks frameChecks risingFrom
+lists-rise v f m out c a t = (refl, refl, refl, refl, refl)
+
+-- so in these four no check that fails has a lower number than the one given
+module _ {x : Check} where
+  pub serve-lowest : (v : Version) (f m out : List ℕ) → List·Memᴰ x (serveChecks v f m out) → x .passes ≡ false → served heard v f m out .number ≤ x .number
+  serve-lowest v f m out = lowest-given (serveChecks v f m out) _ (lists-rise v f m out [] 0 0 .0) (serve-gives v f m out)
+
+  pub take-apart-lowest : (f out : List ℕ) → List·Memᴰ x (apartChecks f out) → x .passes ≡ false → apart f out .number ≤ x .number
+  take-apart-lowest f out = lowest-given (apartChecks f out) _ (lists-rise current f [] out [] 0 0 .1) (take-apart-gives f out)
+
+  pub fresh-lowest : (v : Version) (m : List ℕ) (a : ℕ) → List·Memᴰ x (freshChecks v m a) → x .passes ≡ false → freshened v m a .number ≤ x .number
+  fresh-lowest v m a = lowest-given (freshChecks v m a) _ (lists-rise v [] m [] [] a 0 .2) (fresh-gives v m a)
+
+  pub held-lowest : (v : Version) (m : List ℕ) (t : ℕ) → List·Memᴰ x (heldChecks v m t) → x .passes ≡ false → heldParts v m t .number ≤ x .number
+  held-lowest v m t = lowest-given (heldChecks v m t) _ (lists-rise v [] m [] [] 0 t .3) (held-gives v m t)
+
+-- ---- a refusal reports nothing and alters nothing
+
+-- of serving: no length, and both buffers as they were
+pub record Unchanged (a : BuffersAfter) (m o : List ℕ) : Type 0 where
+  pub len : a .len ≡ 0
+  pub image : a .image ≡ m
+  pub out : a .out ≡ o
+
+pub refused-changes-nothing : (ear : Hearing) (v : Version) (f m out : List ℕ) → served ear v f m out .number ≢ 0 → Unchanged (served ear v f m out) m out
+unfolding served answered
+refused-changes-nothing ear v f m out =
+    judged-refused (λ (b : BuffersAfter). b .number) (λ n. sent (refusal n m) out) _ (sent (answered ear v f m) out) (λ b. Unchanged b m out) same
+    (done-same (ear (address m) f))
+  where
+    same : (k : ℕ) → Unchanged (sent (refusal k m) out) m out
+    same k = record { len = refl; image = refl; out = lay-none out 0 }
+
+    done-same : (r : Verdict) → done v r (contentsOf f) m .number ≢ 0 → Unchanged (sent (done v r (contentsOf f) m) out) m out
+    done-same (Refused k) z = same k
+    done-same (Accepted e a d) z = absurd (z refl)
+
+-- of taking apart and building
+abbrev pub Unwritten : OutputAfter → List ℕ → Type 0
+Unwritten a out = (a .len ≡ 0) × (a .out ≡ out)
+
+pub refused-take-apart : (f out : List ℕ) → apart f out .number ≢ 0 → Unwritten (apart f out) out
+unfolding apart
+refused-take-apart f out =
+    judged-refused (λ (a : OutputAfter). a .number) (refuse out) (apartChecks f out) (written out (contentsOf f)) (λ a. Unwritten a out)
+    (λ n. (refl, refl)) (λ z. absurd (z refl))
+
+pub refused-build : (c out : List ℕ) → built c out .number ≢ 0 → Unwritten (built c out) out
+unfolding built
+refused-build c out =
+    judged-refused (λ (a : OutputAfter). a .number) (refuse out) (buildChecks c out) (written out (frameOf c)) (λ a. Unwritten a out)
+    (λ n. (refl, refl)) (λ z. absurd (z refl))
+
+pub refused-fresh : (v : Version) (m : List ℕ) (a : ℕ) → freshened v m a .number ≢ 0 → freshened v m a .image ≡ m
+unfolding freshened
+refused-fresh v m a =
+    judged-refused (λ (x : FreshAfter). x .number) (unfresh m) (freshChecks v m a) _ (λ x. x .image ≡ m) (λ n. refl) (λ z. absurd (z refl))
+
+-- the held-parts question lends nothing to write, and reports two zeros
+pub refused-held : (v : Version) (m : List ℕ) (t : ℕ) → heldParts v m t .number ≢ 0 → (heldParts v m t .parts ≡ 0) × (heldParts v m t .missing ≡ 0)
+unfolding heldParts heldOf
+refused-held v m t =
+    judged-refused (λ (h : Held). h .number) unheld (heldChecks v m t) _ (λ h. (h .parts ≡ 0) × (h .missing ≡ 0)) (λ n. (refl, refl)) (λ z. absurd (z refl))

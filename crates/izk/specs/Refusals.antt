@@ -1,0 +1,29 @@
+-- Document 01's table of refusals as serving has it: one list of numbered checks, in their order. Taking apart, building, a fresh image and the
+-- held-parts question have theirs beside their definitions. Assumes nothing.
+use mathlib.Core.List.{List, [], _∷_}
+use Prim.Native.Nat.{ℕ}
+use lib.ListN.{length}
+use lib.Dec.{leb, eqb}
+use Rattle.laws.specs.Checks.{Check, check}
+use Rattle.frame.specs.Digits.{allDigits}
+use Rattle.frame.specs.Apart.{lengthOk, endsOk, inner, contentsOf, sumOk}
+use Rattle.image.specs.Version.{Version}
+use Rattle.image.specs.Usable.{usable, address}
+use Rattle.rules.specs.Rules.{byte}
+use Rattle.rules.specs.Verdict.{isServed, isLong, namesOne, valuesFit}
+
+-- a frame, an image and an output; from 7 on the tests are of the body that passed 3 to 6
+unfoldable pub serveChecks : Version → List ℕ → List ℕ → List ℕ → List Check
+serveChecks v f m out =
+    check 1 (usable v m)
+    ∷ (check 2 (leb 269 (length out))
+    ∷ (check 3 (lengthOk (length f))
+    ∷ (check 4 (endsOk f)
+    ∷ (check 5 (allDigits (inner f))
+    ∷ (check 6 (sumOk f)
+    ∷ (check 7 (eqb (byte (contentsOf f) 1) (address m))
+    ∷ (check 8 (isServed (contentsOf f))
+    ∷ (check 9 (isLong (contentsOf f))
+    ∷ (check 10 (namesOne (contentsOf f))
+    ∷ (check 11 (valuesFit (contentsOf f))
+    ∷ []))))))))))
