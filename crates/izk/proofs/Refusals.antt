@@ -37,8 +37,8 @@ unfolding served answered heard serveChecks frameChecks firstFailing judged
 serve-number v f m out =
     judged-map (λ (b : BuffersAfter). b .number) (λ n. sent (refusal n m) out) outer (sent (answered heard v f m) out)
     ∙ ap (λ (n : ℕ). judged (λ n. n) outer n) (
-      done-number v (heard (address m) f) (contentsOf f) m ∙ judged-map numberOf Refused (frameChecks f) (recognised (address m) (contentsOf f))
-      ∙ ap (λ (n : ℕ). judged (λ n. n) (frameChecks f) n) (recognised-number (address m) (contentsOf f))
+    done-number v (heard (address m) f) (contentsOf f) m ∙ judged-map numberOf Refused (frameChecks f) (recognised (address m) (contentsOf f))
+    ∙ ap (λ (n : ℕ). judged (λ n. n) (frameChecks f) n) (recognised-number (address m) (contentsOf f))
     )
   where
     outer : List Check

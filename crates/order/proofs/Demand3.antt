@@ -1,4 +1,4 @@
--- Demand 3: calls of which no two clash may be served in any order, whatever hears them lawfully. Assumes nothing.
+-- Demand 3: frames of which no two clash may be served in any order, into any outputs, whatever hears them lawfully. Assumes nothing.
 use mathlib.Core.Path.{_≡_, refl, sym, ap, ap₂, _∙_}
 use mathlib.Core.Logic.{inl, inr}
 use mathlib.Core.List.{List, [], _++_}
@@ -6,7 +6,7 @@ use Prim.Native.Nat.{ℕ, _+_, _<_}
 use lib.ListN.{length, getD, take}
 use Rattle.reorder.specs.Reorder.{outcomes, Commutes, place, pick, Reorders, NoClash, KeepsClashes, SameService}
 use Rattle.reorder.proofs.Order.{keeping-order, any-order}
-use Rattle.reorder.proofs.Readings.{each-outcome}
+use Rattle.reorder.proofs.Readings.{each-outcome, alike-service}
 use Rattle.frame.specs.Apart.{contentsOf}
 use Rattle.frame.specs.Built.{frameOf}
 use Rattle.image.specs.declared.cell.Cell.{Cell}
@@ -20,7 +20,7 @@ use Rattle.command.specs.Reply.{done, BuffersAfter}
 use Rattle.command.proofs.Commute.{Clear, says-same, leaves-swap}
 use Rattle.izk.specs.Heard.{answered, Hearing, Lawful}
 use Rattle.izk.proofs.Serving.{served-is, reply-seen, answered-usable, answered-address}
-use Rattle.order.specs.Serving.{Call, nothing, step, Good, Meets, Clash}
+use Rattle.order.specs.Serving.{Call, nothing, framesOf, step, Good, Meets, Clash}
 
 -- ---- two verdicts of which the first does not meet the second
 
@@ -89,20 +89,27 @@ module _ (ear : Hearing) (ok : Lawful ear) (v : Version) (a : ℕ) where
             ∙ sym (ap (λ (r : (ℕ × List ℕ) × List ℕ). r .1) (then-is m y x g));
       }
 
-  -- ---- any list of calls
+  -- a call is answered by its frame; its output's old characters do not show
+  by-frame : (m : List ℕ) (x y : Call) → Good v a m → x .frame ≡ y .frame → step ear v m x ≡ step ear v m y
+  by-frame m x y g e =
+      step-is m x g ∙ ap (λ (f : List ℕ). did v (ear a f) (contentsOf f) m) e ∙ sym (step-is m y g)
 
-  -- demand 3: in any order each call has the number and the reply that it has in the list, and the image that is left is the list's
-  pub any-order-serves : (xs : List Call) (o : List ℕ) (m : List ℕ) → Good v a m → Reorders (length xs) o → NoClash (Clash ear a) nothing xs
-      → SameService (step ear v) nothing (0, []) m xs o
-  any-order-serves = any-order (step ear v) (Good v a) (Clash ear a) stays commute nothing (0, []) clash-turn
+  -- ---- any list of calls, and any list of calls with the same frames in another order
 
-  -- by place
-  pub any-order-answers : (xs : List Call) (o : List ℕ) (m : List ℕ) → Good v a m → Reorders (length xs) o → NoClash (Clash ear a) nothing xs
-      → (k : ℕ) → k < length o
-      → getD (outcomes (step ear v) m (pick nothing xs o)) k (0, []) ≡ getD (outcomes (step ear v) m xs) (place o k) (0, [])
-  any-order-answers xs o m g r n = each-outcome (step ear v) nothing (0, []) m xs o (any-order-serves xs o m g r n)
+  module _ (xs ys : List Call) (o : List ℕ) (m : List ℕ) (good : Good v a m) (re : Reorders (length xs) o)
+      (frames : framesOf ys ≡ pick [] (framesOf xs) o) where
+    same-frames : SameService (step ear v) (0, []) m xs (pick nothing xs o) o → SameService (step ear v) (0, []) m xs ys o
+    same-frames = alike-service (step ear v) (Good v a) stays (λ x. x .frame) by-frame nothing (0, []) m xs ys o good frames
 
-  -- and where calls clash, in any order that keeps theirs
-  pub keeping-order-serves : (xs : List Call) (o : List ℕ) (m : List ℕ) → Good v a m → Reorders (length xs) o → KeepsClashes (Clash ear a) nothing xs o
-      → SameService (step ear v) nothing (0, []) m xs o
-  keeping-order-serves = keeping-order (step ear v) (Good v a) (Clash ear a) stays commute nothing (0, [])
+    -- demand 3: in any order each frame has the number and the reply that it has in the list, and the image that is left is the list's
+    pub any-order-serves : NoClash (Clash ear a) nothing xs → SameService (step ear v) (0, []) m xs ys o
+    any-order-serves n = same-frames (any-order (step ear v) (Good v a) (Clash ear a) stays commute nothing (0, []) clash-turn xs o m good re n)
+
+    -- by place
+    pub any-order-answers : NoClash (Clash ear a) nothing xs → (k : ℕ) → k < length o
+        → getD (outcomes (step ear v) m ys) k (0, []) ≡ getD (outcomes (step ear v) m xs) (place o k) (0, [])
+    any-order-answers n = each-outcome (step ear v) (0, []) m xs ys o (any-order-serves n)
+
+    -- and where calls clash, in any order that keeps theirs
+    pub keeping-order-serves : KeepsClashes (Clash ear a) nothing xs o → SameService (step ear v) (0, []) m xs ys o
+    keeping-order-serves k = same-frames (keeping-order (step ear v) (Good v a) (Clash ear a) stays commute nothing (0, []) xs o m good re k)

@@ -1,11 +1,11 @@
--- A worked case of demand 3: all eleven parts of table 2 and two of table 12, written in two orders. The theorem's premises are computed on it,
--- so they are met by something. Assumes nothing.
+-- A worked case of demand 3: all eleven parts of table 2 and two of table 12, written in two orders, into two kinds of outputs. The theorem's
+-- premises are computed on it, so they are met by something. Assumes nothing.
 use mathlib.Core.Path.{_≡_, refl}
-use mathlib.Core.List.{List, [], _∷_, _++_}
+use mathlib.Core.List.{List, [], _∷_, _++_, map}
 use mathlib.Core.Bool.{true}
 use Prim.Native.Nat.{ℕ, zero, suc}
 use native.Mathlib.Omega.{arith}
-use lib.ListN.{replicate}
+use lib.ListN.{replicate, length-replicate}
 use Rattle.laws.specs.Bytes.{slice, lay, zeros, padded, sumOf, two, wordAt}
 use Rattle.laws.specs.Checks.{judged, within, every, all}
 use Rattle.laws.specs.Bits.{withBit}
@@ -26,7 +26,7 @@ use Rattle.rules.specs.Verdict.{tried, sought, recognised}
 use Rattle.izk.specs.Heard.{heard, answered}
 use Rattle.izk.specs.Block.{served}
 use Rattle.izk.proofs.Hearing.{heard-lawful}
-use Rattle.order.specs.Serving.{Call, call, nothing, step}
+use Rattle.order.specs.Serving.{Call, call, nothing, framesOf, step}
 use Rattle.order.proofs.Demand3.{any-order-serves}
 use Rattle.order.proofs.Tests.{disjoint, clear, noneMeet, quiet, no-clash-of}
 
@@ -61,10 +61,21 @@ no-two-meet = refl
 is-usable : usable current (fresh current 1) ≡ true
 is-usable = fresh-usable current 1 (λ e. absurd (let z : ⊥ = omega arith in z))
 
-pub same-service : SameService (step heard current) nothing (0, []) (fresh current 1) calls other
+-- the same frames in that order, into longer outputs that hold other characters
+abbrev refilled : Call → Call
+refilled x = record { frame = x .frame; out = replicate 300 42; room = rw (length-replicate {A = ℕ} 300 42) (omega arith) }
+
+unfoldable pub callsAgain : List Call
+callsAgain = map refilled (pick nothing calls other)
+
+same-frames : framesOf callsAgain ≡ pick [] (framesOf calls) other
+unfolding callsAgain calls partsSent other
+same-frames = refl
+
+pub same-service : SameService (step heard current) (0, []) (fresh current 1) calls callsAgain other
 unfolding calls partsSent back fresh lay zeros
 same-service =
-    any-order-serves heard heard-lawful current 1 calls other (fresh current 1) (is-usable, refl) (reorders-of back other undone redone)
+    any-order-serves heard heard-lawful current 1 calls callsAgain other (fresh current 1) (is-usable, refl) (reorders-of back other undone redone) same-frames
     (no-clash-of heard 1 calls no-two-meet)
 
 -- ---- both orders, computed by the definition alone
@@ -84,10 +95,10 @@ expected =
     (73 ∷ (90 ∷ (75 ∷ (0 ∷ (versionNumber current ∷ (1 ∷ zeros 11))))))
     ++ (heldWords ++ (zeros 2584 ++ (rows 1 11 ++ (zeros 9856 ++ (rows 1 2 ++ zeros 9600)))))
 
--- as written, and otherwise
+-- as written, and otherwise, into the other outputs
 pub both-orders : (final (step heard current) (fresh current 1) calls ≡ expected)
-    × (final (step heard current) (fresh current 1) (pick nothing calls other) ≡ expected)
-unfolding calls other partsSent rows heldWords expected served answered heard recognised sought tried stored ruleOf commands markOk addressOk countOk tableWord
-    wordOk usable fresh when isTable tableIndex partNamed lengthOk endsOk inner bodyOf contentsOf sumOk frameChecks frameOf isDigit valueOf
+    × (final (step heard current) (fresh current 1) callsAgain ≡ expected)
+unfolding calls callsAgain other partsSent rows heldWords expected served answered heard recognised sought tried stored ruleOf commands markOk addressOk
+    countOk tableWord wordOk usable fresh when isTable tableIndex partNamed lengthOk endsOk inner bodyOf contentsOf sumOk frameChecks frameOf isDigit valueOf
     charOf charsOf bytesOf checksumOf withBit judged within every all slice lay zeros padded sumOf two wordAt
 both-orders = (refl, refl)

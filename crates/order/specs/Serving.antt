@@ -1,7 +1,7 @@
 -- Demand 3's words for serving: a call, what it is answered, and when two calls clash (document 01, "Cells"). Assumes nothing.
 use mathlib.Core.Path.{_≡_}
 use mathlib.Core.Logic.{_⊎_}
-use mathlib.Core.List.{List, [], List·Memᴰ}
+use mathlib.Core.List.{List, [], map, List·Memᴰ}
 use mathlib.Core.Bool.{true}
 use Prim.Native.Nat.{ℕ, _≤_}
 use native.Mathlib.Omega.{arith}
@@ -14,7 +14,7 @@ use Rattle.command.specs.Reply.{readsOf, writesOf, replyIn}
 use Rattle.izk.specs.Heard.{Hearing}
 use Rattle.izk.specs.Block.{served}
 
--- a frame, and an output with room; each call has its own
+-- a frame, and an output with room, whatever stands in it
 pub record Call : Type 0 where
   pub frame : List ℕ
   pub out : List ℕ
@@ -26,6 +26,10 @@ call f = record { frame = f; out = replicate 269 0; room = rw (length-replicate 
 
 abbrev pub nothing : Call
 nothing = call []
+
+-- what is sent, without the outputs: a buffer that is used twice has other old characters in another order
+abbrev pub framesOf : List Call → List (List ℕ)
+framesOf xs = map (λ x. x .frame) xs
 
 -- the number and the reply, as it stands in the output; and the image. Characters behind the reply are not spoken of
 abbrev pub step : Hearing → Version → List ℕ → Call → (ℕ × List ℕ) × List ℕ

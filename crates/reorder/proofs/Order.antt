@@ -6,14 +6,15 @@ use Prim.Native.Nat.{ℕ, _+_, _≤_, _<_}
 use native.Mathlib.Omega.{arith}
 use native.Mathlib.Decide.{decLt}
 use lib.ListN.{length, getD}
-use Rattle.reorder.specs.Reorder.{outcomes, final, Commutes, place, Reorders, NoClash, KeepsClashes, SameService}
+use Rattle.reorder.specs.Reorder.{outcomes, final, Commutes, place, pick, Reorders, NoClash, KeepsClashes, SameService}
 use Rattle.reorder.proofs.Walk.{from, pairs-of, mem-place, place-mem, Leads, read-off, base, Free, reordered}
 
 module _ {S F O : Type 0} (step : S → F → O × S) (Good : S → Type 0) (Clash : F → F → Type 0)
     (stays : (s : S) (f : F) → Good s → Good (step s f .1))
     (commute : (s : S) (f g : F) → Good s → ¬ Clash f g → Commutes step s f g) (d : F) (e : O) where
   -- a reordering in which any two that clash keep their order
-  pub keeping-order : (fs : List F) (o : List ℕ) (s : S) → Good s → Reorders (length fs) o → KeepsClashes Clash d fs o → SameService step d e s fs o
+  pub keeping-order : (fs : List F) (o : List ℕ) (s : S) → Good s → Reorders (length fs) o → KeepsClashes Clash d fs o
+      → SameService step e s fs (pick d fs o) o
   keeping-order fs o s good re keeps = let r = read-off step frame ans o s t served in record { answers = r .0; left = r .1 }
     where
       frame : ℕ → F
@@ -45,7 +46,7 @@ module _ {S F O : Type 0} (step : S → F → O × S) (Good : S → Type 0) (Cla
 
   -- any reordering, where no two clash
   pub any-order : ((f g : F) → Clash f g → Clash g f) → (fs : List F) (o : List ℕ) (s : S) → Good s → Reorders (length fs) o
-      → NoClash Clash d fs → SameService step d e s fs o
+      → NoClash Clash d fs → SameService step e s fs (pick d fs o) o
   any-order turn fs o s good re none = keeping-order fs o s good re (λ k m h l c. go k m h l c (decLt (place o k) (place o m)))
     where
       go : (k m : ℕ) → k < m → m < length o → Clash (getD fs (place o k) d) (getD fs (place o m) d) → Dec (place o k < place o m) → place o k < place o m

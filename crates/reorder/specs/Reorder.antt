@@ -39,11 +39,11 @@ pub record Reorders (n : ℕ) (o : List ℕ) : Type 0 where
   pub once : (k m : ℕ) → k < m → m < length o → place o k ≢ place o m
   pub all : (i : ℕ) → i < n → (k : ℕ) × (k < length o) × (place o k ≡ i)
 
--- served in the order o, each has the outcome that it has in the order of the list, and the same state is left
-module _ {S F O : Type 0} (step : S → F → O × S) (d : F) (e : O) where
-  pub record SameService (s : S) (fs : List F) (o : List ℕ) : Type 0 where
-    pub answers : outcomes step s (pick d fs o) ≡ pick e (outcomes step s fs) o
-    pub left : final step s (pick d fs o) ≡ final step s fs
+-- gs is served as fs is: what stands k-th in gs has the outcome that the place o has k-th has in fs, and the same state is left
+module _ {S F O : Type 0} (step : S → F → O × S) (e : O) where
+  pub record SameService (s : S) (fs gs : List F) (o : List ℕ) : Type 0 where
+    pub answers : outcomes step s gs ≡ pick e (outcomes step s fs) o
+    pub left : final step s gs ≡ final step s fs
 
 -- ---- what it may not change
 
