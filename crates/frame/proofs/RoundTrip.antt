@@ -1,16 +1,20 @@
 -- Building and taking apart undo each other. Assumes nothing.
 use mathlib.Core.Path.{_≡_, refl, sym, ap, _∙_}
 use mathlib.Core.List.{List, [], _∷_, _++_}
-use mathlib.Core.Bool.{true}
+use mathlib.Core.Bool.{Bool, true, false}
 use Prim.Native.Nat.{ℕ, zero, suc, _+_, _-_, _*_, _≤_, _<_}
 use native.Mathlib.Omega.{arith}
 use lib.ListN.{length, getD, take, drop, length-append, take-append-drop}
 use lib.Seq.{take-at, getD-at, getD-append-add, take-suc, take-all, take-add, drop-length}
-use borrow.Author.Tests.{eq-eqb, eqb-true}
+use lib.Dec.{leb}
+use borrow.Author.Tests.{eq-eqb, eqb-true, leb-true}
 use Rattle.laws.specs.Bytes.{slice}
-use Rattle.laws.specs.Checks.{AllPass}
+use Rattle.laws.specs.Checks.{judged, AllPass, within}
+use Rattle.laws.proofs.Tests.{within-is}
 use Rattle.laws.proofs.Walks.{next2}
-use Rattle.output.specs.Output.{written}
+use Rattle.output.specs.declared.answer.Answer.{Answer}
+use Rattle.output.specs.Output.{written, Does}
+use Rattle.output.proofs.Outcomes.{stands-there}
 use Rattle.frame.specs.Digits.{allDigits, charsOf, checksumOf}
 use Rattle.frame.specs.Apart.{lengthOk, endsOk, inner, bodyOf, contentsOf, sumOk, frameChecks, apart}
 use Rattle.frame.specs.Built.{frameOf, built}
@@ -140,3 +144,36 @@ apart-then-written f out left z room =
     let e = apart-then-built f out z in
     let n : 2 * length (contentsOf f) + 5 ≤ length left = omega (arith, length-frame (contentsOf f), ap length (e .0)) in
     built-done (contentsOf f) left (e .1) (e .2) n ∙ ap (written left) (e .0)
+
+-- ---- the same of what the two functions leave, by their promises
+
+-- an answer of number 0 says that building's checks passed
+built-0 : (c out : List ℕ) → built c out .number ≡ 0 → (2 ≤ length c) × (length c ≤ 132) × (2 * length c + 5 ≤ length out)
+unfolding built judged
+built-0 c out = go (within 2 132 (length c)) refl (leb (2 * length c + 5) (length out)) refl
+  where
+    go : (s : Bool) → within 2 132 (length c) ≡ s → (t : Bool) → leb (2 * length c + 5) (length out) ≡ t → built c out .number ≡ 0
+        → (2 ≤ length c) × (length c ≤ 132) × (2 * length c + 5 ≤ length out)
+    go false e t f z = let n : _≡_ {A = ℕ} 3 0 = rw e at z in absurd (omega arith)
+    go true e false f z = let n : _≡_ {A = ℕ} 2 0 = rw (e, f) at z in absurd (omega arith)
+    go true e true f z = let w = within-is 2 132 (length c) e in (w .0, w .1, leb-true _ _ f)
+
+module _ (r s : Answer) (out left out′ left′ : List ℕ) where
+  -- the bytes that building left, taken apart
+  pub build-then-take-apart : (c : List ℕ) → Bytes c → Does (built c out) r left → r .number ≡ 0 → 132 ≤ length out′
+      → Does (apart (take (r .len) left) out′) s left′ → Does (written out′ c) s left′
+  build-then-take-apart c bytes d z room e =
+      let n = built-0 c out (sym (d .number-is) ∙ z) in
+      let t : take (r .len) left ≡ frameOf c =
+      stands-there out left (frameOf c) r (omega (arith, length-frame c)) (rw (built-done c out (n .0) (n .1) (n .2)) at d) in
+      rw (t, built-then-apart c bytes (n .0) (n .1) out′ room) at e
+
+  -- the bytes that taking apart left, built
+  pub take-apart-then-build : (f : List ℕ) → Does (apart f out) r left → r .number ≡ 0 → length f ≤ length out′
+      → Does (built (take (r .len) left) out′) s left′ → Does (written out′ f) s left′
+  take-apart-then-build f d z room e =
+      let n = sym (d .number-is) ∙ z in
+      let p = taken-0 f out n in
+      let t : take (r .len) left ≡ contentsOf f =
+      stands-there out left (contentsOf f) r (omega (arith, contents-length f (p .1))) (rw (apart-passed f out (p .0) (p .1)) at d) in
+      rw (t, apart-then-written f out out′ n room) at e

@@ -16,10 +16,10 @@ use Rattle.laws.proofs.Bytes.{In}
 use Rattle.image.specs.declared.cell.Cell.{Cell}
 use Rattle.image.specs.declared.cell.Cell.the-variants.{Mask, Mode, Clock, Constants, Errors, Part, Table}
 use Rattle.image.specs.Version.{Version, v1, imageLength}
-use Rattle.image.specs.Cell.{offset, size, isCell, run, partsFrom, cells, cellsOf, rising, extent}
+use Rattle.image.specs.Cell.{offset, size, isCell, run, partsFrom, cells, cellsOf, Once, rising, extent}
 use Rattle.image.specs.Words.{Span, words, wordOffset, spanInside, off, inside}
 
--- ---- three computed tests of the list
+-- ---- computed tests of the list
 
 pub cells-195 : length cells ≡ 195
 unfolding cells run partsFrom
@@ -32,6 +32,14 @@ cells-rise = refl
 pub cells-inside : (v : Version) → all (inside v) cells ≡ true
 unfolding cells run partsFrom all inside off
 cells-inside v1 = refl
+
+cells-are : all isCell cells ≡ true
+unfolding cells run partsFrom all
+cells-are = refl
+
+cells-some : all (λ c. ltb 0 (size c)) cells ≡ true
+unfolding cells run partsFrom all
+cells-some = refl
 
 -- ---- what the tests mean
 
@@ -61,6 +69,21 @@ shared {c} {d} (x ∷ l) h m n i p q = go (List·Memᴰ·cases-cons m) (List·Me
     go (inl a) (inr b) ih = let z : offset c + size c ≤ offset d = rw a (first-ends x l h b) in absurd (omega arith)
     go (inr a) (inl b) ih = let z : offset d + size d ≤ offset c = rw b (first-ends x l h a) in absurd (omega arith)
     go (inr a) (inr b) ih = ih a b
+
+-- ---- the list has cells alone, and none twice
+
+pub listed-are : {c : Cell} → List·Memᴰ c cells → isCell c ≡ true
+listed-are m = all-of isCell cells-are m
+
+once : (l : List Cell) → rising l ≡ true → all (λ c. ltb 0 (size c)) l ≡ true → Once l
+unfolding all
+once [] h s = tt
+once (c ∷ l) h s =
+    let p = and-both (ltb 0 (size c)) (all (λ c. ltb 0 (size c)) l) s in
+    (λ m. let a = first-ends c l h m in let b = ltb-true 0 (size c) (p .0) in omega arith, once l (rest-rises c l h) (p .1))
+
+pub cells-once : Once cells
+cells-once = once cells cells-rise cells-some
 
 -- ---- the list has every cell
 
@@ -195,9 +218,5 @@ extent-view (Part k p) = inl (λ n. refl)
 extent-view (Table k) = inl (λ n. refl)
 
 -- a cell has a first byte
-cells-some : all (λ c. ltb 0 (size c)) cells ≡ true
-unfolding cells run partsFrom all
-cells-some = refl
-
 pub size-some : (d : Cell) → isCell d ≡ true → 0 < size d
 size-some d h = ltb-true 0 (size d) (all-of (λ c. ltb 0 (size c)) cells-some (listed d h))

@@ -1,6 +1,6 @@
 -- The cells of document 01 ("Cells", "The image"): where each stands, how long it is, how a request names it, and all 195 of them.
 -- Assumes nothing.
-use mathlib.Core.List.{List, [], _∷_, _++_}
+use mathlib.Core.List.{List, [], _∷_, _++_, List·Memᴰ}
 use mathlib.Core.Bool.{Bool, true, false, cond, _&&_, _||_}
 use Prim.Native.Nat.{ℕ, zero, suc, _+_, _-_, _*_}
 use lib.Dec.{leb, ltb}
@@ -113,7 +113,12 @@ tableNamed t = when (isTable t) (Table (tableIndex t))
 unfoldable pub partNamed : ℕ → ℕ → Named
 partNamed t p = when (isTable t && within 1 11 p) (Part (tableIndex t) (p - 1))
 
--- ---- a test of the whole list
+-- ---- what is said of the whole list
+
+-- none is there twice
+abbrev pub Once : List Cell → Type 0
+Once [] = Unit {0}
+Once (c ∷ l) = (¬ List·Memᴰ c l) × Once l
 
 -- each ends before the next begins
 unfoldable pub rising : List Cell → Bool

@@ -6,16 +6,18 @@ use Prim.Native.Nat.{ℕ}
 use Prim.Native.String.{String}
 use native.Mathlib.Omega.{arith}
 use lib.ListN.{length, getD}
+use lib.Seq.{take-length}
 use lib.Dec.{eqb}
 use borrow.Author.Tests.{eqb-true}
 use Rattle.laws.specs.Bytes.{zeros, codes}
 use Rattle.laws.specs.Checks.{same}
 use Rattle.laws.proofs.Tests.{and-both, same-is, all-of}
+use Rattle.laws.proofs.Bytes.{length-zeros, lay-take}
 use Rattle.image.specs.Version.{current}
 use Rattle.image.specs.Fresh.{fresh}
 use Rattle.command.specs.Reply.{BuffersAfter, replyIn}
 use Rattle.izk.specs.Frames.{Example, ended, on, after, right, example, examples}
-use Rattle.izk.specs.Useless.{Block, Keeps, RefusesAll, RepliesTheSame, StoresNothing, EchoesLater}
+use Rattle.izk.specs.Useless.{Block, Keeps, RefusesAll, RepliesTheSame, StoresNothing, EchoesLater, refusing, sameToAll, forgetting, echoing}
 use Rattle.izk.proofs.Frames.{examples-hold}
 
 -- ---- what an example says
@@ -99,4 +101,15 @@ module _ (b : Block) (keeps : Keeps b) where
   unfolding after codes ended
   not-echoing r =
       other-length ":013200CD" ":0132CD" 11 9 refl refl (λ e. absurd (let z : ⊥ = omega arith in z))
-      (sym (reply-is P1 p1) ∙ sym (ap replyIn (call 1 (fresh current 1) ":0132CD")) ∙ r 0 (ended ":0132CD") (fresh current 1) (zeros 269))
+      (sym (reply-is P1 p1) ∙ sym (ap replyIn (call 1 (fresh current 1) ":0132CD"))
+      ∙ r 0 (ended ":0132CD") (fresh current 1) (zeros 269) (rw (length-zeros 269) (omega arith)))
+
+-- ---- each could be built
+
+pub useless-blocks : RefusesAll refusing × RepliesTheSame sameToAll × StoresNothing forgetting × EchoesLater echoing
+useless-blocks = (
+  λ n f m out e. absurd (omega arith),
+  λ n k f g m out. refl,
+  λ n f m out. refl,
+  λ n f m out h. lay-take out f h (length f) (omega arith) ∙ take-length f,
+)

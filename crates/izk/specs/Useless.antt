@@ -2,11 +2,13 @@
 use mathlib.Core.Path.{_≡_}
 use mathlib.Core.Logic.{_≢_}
 use mathlib.Core.List.{List}
-use Prim.Native.Nat.{ℕ, suc}
+use Prim.Native.Nat.{ℕ, zero, suc, _≤_}
+use lib.ListN.{length}
 use Rattle.image.specs.Version.{current}
-use Rattle.command.specs.Reply.{BuffersAfter, replyIn}
+use Rattle.command.specs.Reply.{refusal, BuffersAfter, sent, replyIn}
 use Rattle.izk.specs.Heard.{heard}
 use Rattle.izk.specs.Block.{served}
+use Rattle.izk.specs.Frames.{ended}
 
 -- a block as it looks from outside: its n-th call, from 0, on a frame, an image and an output. What it keeps between calls shows in n
 abbrev pub Block : Type 0
@@ -26,6 +28,23 @@ RepliesTheSame b = (n k : ℕ) (f g m out : List ℕ) → replyIn (b n f m out) 
 abbrev pub StoresNothing : Block → Type 0
 StoresNothing b = (n : ℕ) (f m out : List ℕ) → b n f m out .image ≡ m
 
--- it serves its first frame and then only sends each frame back
+-- it serves its first frame and then only sends each frame back, where there is room for it
 abbrev pub EchoesLater : Block → Type 0
-EchoesLater b = (n : ℕ) (f m out : List ℕ) → replyIn (b (suc n) f m out) ≡ f
+EchoesLater b = (n : ℕ) (f m out : List ℕ) → length f ≤ length out → replyIn (b (suc n) f m out) ≡ f
+
+-- ---- one block of each kind, so that each could be built
+
+abbrev pub refusing : Block
+refusing n f m out = sent (refusal 8 m) out
+
+-- every frame is answered as a request for the mask would be
+abbrev pub sameToAll : Block
+sameToAll n f m out = served heard current (ended ":0132CD") m out
+
+-- what serving reports and replies, on an image that stays
+abbrev pub forgetting : Block
+forgetting n f m out = let a = served heard current f m out in record { number = a .number; len = a .len; image = m; out = a .out }
+
+abbrev pub echoing : Block
+echoing zero f m out = served heard current f m out
+echoing (suc n) f m out = sent (record { number = 0; reply = f; image = m }) out

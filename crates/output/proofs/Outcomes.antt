@@ -1,9 +1,12 @@
 -- What was answered is what the definition says, and only one answer is. Assumes nothing.
 use mathlib.Core.Path.{_≡_, sym, ap₂, _∙_}
 use mathlib.Core.List.{List}
-use Prim.Native.Nat.{ℕ}
-use lib.ListN.{length}
+use Prim.Native.Nat.{ℕ, _≤_}
+use native.Mathlib.Omega.{arith}
+use lib.ListN.{length, take}
+use lib.Seq.{take-length}
 use Rattle.laws.specs.Bytes.{lay}
+use Rattle.laws.proofs.Bytes.{lay-take}
 use Rattle.output.specs.declared.answer.Answer.{Answer}
 use Rattle.output.specs.Output.{OutputAfter, refuse, written, Does}
 
@@ -15,6 +18,10 @@ refused a r out n e h g = record { number-is = rw e h; len-is = rw e g; out-is =
 pub filled : (a : OutputAfter) (r : Answer) (out left bytes : List ℕ) → a ≡ written out bytes → r .number ≡ 0 → r .len ≡ length bytes
     → left ≡ lay out 0 bytes → Does a r left
 filled a r out left bytes e h g l = record { number-is = rw e h; len-is = rw e g; out-is = rw e l }
+
+-- what was written is what stands in the output, as far as the answer's length says
+pub stands-there : (out left bytes : List ℕ) (r : Answer) → length bytes ≤ length out → Does (written out bytes) r left → take (r .len) left ≡ bytes
+stands-there out left bytes r h d = rw (d .len-is, d .out-is) (lay-take out bytes h (length bytes) (omega arith) ∙ take-length bytes)
 
 -- ---- one outcome: two answers that do what the definition says, with what they leave, are the same
 
