@@ -3,14 +3,16 @@ use mathlib.Core.Path.{_≡_, refl, sym, ap, _∙_}
 use mathlib.Core.Logic.{_≢_}
 use mathlib.Core.List.{List, [], _∷_, _++_, append-nil}
 use mathlib.Core.Bool.{true}
-use Prim.Native.Nat.{ℕ, _+_, _≤_, _<_}
+use Prim.Native.Nat.{ℕ, _+_, _%_, _≤_, _<_}
+use native.Mathlib.Nat.{div-eq-of-lt}
 use native.Mathlib.Omega.{arith}
 use lib.ListN.{length, getD, drop, set, drop-of-length-le}
+use lib.Pow.{pow-pos}
 use borrow.Author.Tests.{eq-eqb, ne-eqb}
 use borrow.Author.Fill.{fill-more}
 use Rattle.laws.specs.Bytes.{zeros, wordAt}
 use Rattle.laws.specs.Checks.{judged}
-use Rattle.laws.specs.Bits.{onesIn}
+use Rattle.laws.specs.Bits.{bit, onesIn}
 use Rattle.laws.proofs.Bytes.{length-zeros, length-lay, lay-at, lay-out, lay-is, zeros-at}
 use Rattle.image.specs.declared.cell.Cell.the-variants.{Errors}
 use Rattle.image.specs.Version.{Version, v1, current, versionNumber, imageLength}
@@ -66,6 +68,9 @@ module _ (v : Version) (a : ℕ) where
   word-none : (k : ℕ) → tableWord (fresh v a) k ≡ 0
   unfolding tableWord wordAt
   word-none k = rw (rest-at (wordOffset k) (omega arith), rest-at (wordOffset k + 1) (omega arith))
+
+  pub fresh-bit : (k q : ℕ) → bit (tableWord (fresh v a) k) q ≡ 0
+  fresh-bit k q = rw (word-none k) (ap (λ (x : ℕ). x % 2) (div-eq-of-lt (pow-pos q)))
 
   module _ (some : a ≢ 0) where
     mark-fresh : markOk v (fresh v a) ≡ true

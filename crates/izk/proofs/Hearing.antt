@@ -4,7 +4,7 @@ use Rattle.frame.specs.Apart.{contentsOf, frameChecks}
 use Rattle.rules.specs.Verdict.{recognised}
 use Rattle.rules.proofs.Fit.{judged-fits, recognised-fits}
 use Rattle.rules.proofs.Numbers.{judged-numbered, recognised-numbered}
-use Rattle.rules.proofs.Following.{accepted-past, recognised-follows}
+use Rattle.rules.proofs.Following.{accepted-past, recognised-follows, recognised-known}
 use Rattle.izk.specs.Heard.{heard, Lawful}
 
 pub heard-lawful : Lawful heard
@@ -15,5 +15,6 @@ heard-lawful =
       numbered = λ a f.
           judged-numbered (frameChecks f) _ ((lit< tt, lit< tt), ((lit< tt, lit< tt), ((lit< tt, lit< tt), ((lit< tt, lit< tt), tt))))
           (recognised-numbered a (contentsOf f));
+      known = λ a f h. recognised-known a (contentsOf f) (accepted-past (frameChecks f) _ h);
       follows = λ a f r h l. recognised-follows a (contentsOf f) r (accepted-past (frameChecks f) _ h) l;
     }

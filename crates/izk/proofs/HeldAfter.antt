@@ -28,9 +28,9 @@ use Rattle.izk.specs.Block.{served}
 use Rattle.izk.proofs.Serving.{served-is, usable-stays}
 use Rattle.izk.proofs.Changes.{accepted-fits, accepted-leaves}
 
--- of a usable image and a table, the count is of the word's ones
-held-is : (v : Version) (m : List ℕ) (t : ℕ) → usable v m ≡ true → isTable t ≡ true → heldParts v m t .parts ≡ onesIn 11 (tableWord m (tableIndex t))
-unfolding heldParts heldOf judged
+-- of a usable image and a table, the answer is from the table's word
+pub held-is : (v : Version) (m : List ℕ) (t : ℕ) → usable v m ≡ true → isTable t ≡ true → heldParts v m t ≡ heldOf (tableWord m (tableIndex t))
+unfolding heldParts judged
 held-is v m t u i = rw (u, i)
 
 -- the count of a word with a part's bit set
@@ -58,9 +58,12 @@ pub part-counts-once : (ear : Hearing) → Lawful ear → (v : Version) (f m out
     → ear (address m) f ≡ Accepted e (Store n) (Part (tableIndex t) p)
     → usable v m ≡ true → 269 ≤ length out
     → heldParts v (served ear v f m out .image) t .parts ≡ heldParts v m t .parts + (1 - bit (tableWord m (tableIndex t)) p)
+unfolding heldOf
 part-counts-once ear ok v f m out e n t p i h u r =
-    let left = ap (λ a. a .image) (served-is ear v f m out u r) ∙ accepted-leaves ear v f m e (Store n) (Part (tableIndex t) p) h in
-    held-is v (served ear v f m out .image) t (usable-stays ear ok v f m out u) i
-    ∙ ap (λ (x : List ℕ). onesIn 11 (tableWord x (tableIndex t))) left
-    ∙ counted v (tableIndex t) p (drop n (contentsOf f)) m (accepted-fits ear ok f m e (Store n) (Part (tableIndex t) p) h .act) u
-    ∙ ap (λ (c : ℕ). c + (1 - bit (tableWord m (tableIndex t)) p)) (sym (held-is v m t u i))
+    rw (
+      held-is v (served ear v f m out .image) t (usable-stays ear ok v f m out u) i,
+      held-is v m t u i,
+      served-is ear v f m out u r,
+      accepted-leaves ear v f m e (Store n) (Part (tableIndex t) p) h,
+    )
+    (counted v (tableIndex t) p (drop n (contentsOf f)) m (accepted-fits ear ok f m e (Store n) (Part (tableIndex t) p) h .act) u)

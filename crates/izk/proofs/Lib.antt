@@ -6,5 +6,7 @@ pub mod Changes
 pub mod ReadBack
 pub mod OneOutcome
 pub mod HeldAfter
+pub mod Turns
+pub mod HeldSince
 pub mod Taking
 pub mod Refusals

@@ -29,6 +29,8 @@ heard a f = judged Refused (frameChecks f) (recognised a (contentsOf f))
 pub record Lawful (ear : Hearing) : Type 0 where
   pub fits : (a : ℕ) (f : List ℕ) → FitVerdict (ear a f) (contentsOf f)
   pub numbered : (a : ℕ) (f : List ℕ) → Numbered (ear a f)
+  pub known : {e : ℕ} {t : Act} {d : Cell} (a : ℕ) (f : List ℕ) → ear a f ≡ Accepted e t d
+      → (r : Rule) × (ruleOf (byte (contentsOf f) 2) commands ≡ Found′.Rule r)
   pub follows : {e : ℕ} {t : Act} {d : Cell} (a : ℕ) (f : List ℕ) (r : Rule) → ear a f ≡ Accepted e t d
       → ruleOf (byte (contentsOf f) 2) commands ≡ Found′.Rule r → Follows e t d r (contentsOf f)
 

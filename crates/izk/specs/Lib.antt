@@ -3,3 +3,4 @@ pub mod Block
 pub mod Frames
 pub mod Useless
 pub mod Refusals
+pub mod Since

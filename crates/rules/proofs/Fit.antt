@@ -38,11 +38,11 @@ use Rattle.rules.proofs.Naming.{Alike, constants-named, errors-named, t
 -- ---- what a rule names
 
 -- what an entry of the column stands for: the first that it names, and whether the body has a count of rows
-record Kind : Type 0 where
-  first : Cell
-  counts : Bool
+pub record Kind : Type 0 where
+  pub first : Cell
+  pub counts : Bool
 
-abbrev kind : Names → Kind
+abbrev pub kind : Names → Kind
 kind N.Mask = record { first = Cells.Mask; counts = false }
 kind N.Mode = record { first = Cells.Mode; counts = false }
 kind N.Clock = record { first = Cells.Clock; counts = false }
@@ -52,9 +52,9 @@ kind N.WholeTable = record { first = Cells.Table 0; counts = false }
 kind N.ErrorTable = record { first = Cells.Errors 0; counts = false }
 kind N.ErrorRows = record { first = Cells.Errors 0; counts = true }
 
-record Has (k : Kind) (c : List ℕ) (d : Cell) : Type 0 where
-  alike : Alike d (k .first)
-  rows : k .counts ≡ true → Counted c d
+pub record Has (k : Kind) (c : List ℕ) (d : Cell) : Type 0 where
+  pub alike : Alike d (k .first)
+  pub rows : k .counts ≡ true → Counted c d
 
 uncounted : (x d : Cell) (c : List ℕ) → Alike d x → Has (record { first = x; counts = false }) c d
 uncounted x d c a = record { alike = a; rows = λ e. absurd (never e) }
@@ -64,7 +64,7 @@ cell-is x d c e =
     let i : d ≡ x = cc in
     uncounted x d c (rw i (record { cell = refl; item = refl; sized = refl; counted = λ b. refl }))
 
-names : (s : Names) (c : List ℕ) (d : Cell) → namedBy s c ≡ Named′.Cell d → Has (kind s) c d
+pub names : (s : Names) (c : List ℕ) (d : Cell) → namedBy s c ≡ Named′.Cell d → Has (kind s) c d
 names N.Mask c d e = cell-is Cells.Mask d c e
 names N.Mode c d e = cell-is Cells.Mode d c e
 names N.Clock c d e = cell-is Cells.Clock d c e

@@ -1,4 +1,4 @@
--- An accepted body follows the rule of its command. Assumes nothing.
+-- An accepted body is of a command that has a rule, and follows it. Assumes nothing.
 use mathlib.Core.Path.{_≡_, refl, sym, ap, _∙_}
 use mathlib.Core.List.{List}
 use Prim.Native.Nat.{ℕ}
@@ -9,12 +9,13 @@ use Rattle.image.specs.declared.cell.Cell.{Cell}
 use Rattle.image.specs.declared.cell.Named.{Named}
 use Rattle.image.specs.declared.cell.Named.the-variants as Named′
 use Rattle.rules.specs.declared.rule.Act.{Act}
+use Rattle.rules.specs.declared.rule.Found.{Found}
 use Rattle.rules.specs.declared.rule.Found.the-variants as F
 use Rattle.rules.specs.declared.rule.Rule.{Rule}
 use Rattle.rules.specs.declared.verdict.Verdict.{Verdict}
 use Rattle.rules.specs.declared.verdict.Verdict.the-variants.{Refused, Accepted}
 use Rattle.rules.specs.Rules.{byte, namedBy, commands, ruleOf}
-use Rattle.rules.specs.Verdict.{triedOn, tried, sought, recognised}
+use Rattle.rules.specs.Verdict.{triedOn, tried, triedIf, sought, recognised}
 use Rattle.rules.specs.Fits.{Follows}
 
 module _ {e : ℕ} {a : Act} {d : Cell} where
@@ -35,3 +36,11 @@ module _ {e : ℕ} {a : Act} {d : Cell} where
       go (Named′.Cell d′) i x =
           let y : Accepted (r .echo) (r .act) d′ ≡ Accepted e a d = accepted-past _ _ x in
           record { echoes = cc; acts = cc; names = i ∙ ap Named′.Cell cc }
+
+  pub recognised-known : (b : ℕ) (c : List ℕ) → recognised b c ≡ Accepted e a d → (r : Rule) × (ruleOf (byte c 2) commands ≡ F.Rule r)
+  unfolding recognised sought
+  recognised-known b c h = go (ruleOf (byte c 2) commands) refl (accepted-past _ _ h)
+    where
+      go : (x : Found) → ruleOf (byte c 2) commands ≡ x → triedIf x c ≡ Accepted e a d → (r : Rule) × (ruleOf (byte c 2) commands ≡ F.Rule r)
+      go F.Nothing i x = absurd (let z : _≡_ {A = ℕ} 0 1 = cc in omega arith)
+      go (F.Rule r) i x = (r, i)

@@ -5,3 +5,4 @@ pub mod Warmth
 pub mod Judging
 pub mod Following
 pub mod FirstCheck
+pub mod Parts
