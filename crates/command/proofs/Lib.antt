@@ -1,3 +1,4 @@
 pub mod Commute
 pub mod Doing
 pub mod Replying
+pub mod Uses

@@ -1,2 +1,3 @@
 pub mod Act
 pub mod Reply
+pub mod Uses

@@ -1,3 +1,4 @@
 pub mod Demand3
+pub mod FrameCells
 pub mod Tests
 pub mod Worked
