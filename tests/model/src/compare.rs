@@ -27,6 +27,8 @@ pub struct Options {
     pub probe: PathBuf,
     pub streams: usize,
     pub seed: u64,
+    /// So many failures end the run.
+    pub failures: usize,
     pub prefix: Vec<String>,
 }
 
@@ -50,23 +52,34 @@ impl<W: Write> Tally<W> {
         }
         Ok(())
     }
+
+    /// Prints the count; true if nothing failed.
+    fn end(&mut self) -> io::Result<bool> {
+        let (passed, failed) = (self.passed, self.failed);
+        if failed > SHOWN {
+            writeln!(self.out, "only the first {SHOWN} failures are shown")?;
+        }
+        writeln!(self.out, "{passed} passed, {failed} failed")?;
+        Ok(failed == 0)
+    }
 }
 
 /// Runs the whole test; true if nothing failed.
 pub fn compare(options: &Options) -> io::Result<bool> {
-    let mut coverage = Coverage::default();
+    let mut coverage = Coverage::new();
     let mut tally = Tally {
         passed: 0,
         failed: 0,
         out: io::stdout().lock(),
     };
-    for number in 0..options.streams {
-        let outcome = try_desk(options, number, &mut coverage);
-        tally.note(outcome)?;
-    }
-    for number in 0..options.streams {
-        let outcome = try_probe(options, number, &mut coverage);
-        tally.note(outcome)?;
+    let purposeful = desk_streams::purposeful().max(probe_scripts::purposeful());
+    for number in 0..options.streams.max(purposeful) {
+        for try_one in [try_desk as Try, try_probe] {
+            tally.note(try_one(options, number, &mut coverage))?;
+            if tally.failed >= options.failures {
+                return tally.end();
+            }
+        }
     }
     coverage.print(&mut tally.out)?;
     let missing = coverage.missing();
@@ -77,13 +90,11 @@ pub fn compare(options: &Options) -> io::Result<bool> {
         true => Ok(()),
         false => Err("coverage: see what never came up, above".to_string()),
     })?;
-    let (passed, failed) = (tally.passed, tally.failed);
-    if failed > SHOWN {
-        writeln!(tally.out, "only the first {SHOWN} failures are shown")?;
-    }
-    writeln!(tally.out, "{passed} passed, {failed} failed")?;
-    Ok(failed == 0)
+    tally.end()
 }
+
+/// Tries the stream or script of that number.
+type Try = fn(&Options, usize, &mut Coverage) -> Result<(), String>;
 
 fn try_desk(options: &Options, number: usize, coverage: &mut Coverage) -> Result<(), String> {
     let seed = options.seed;
@@ -91,7 +102,7 @@ fn try_desk(options: &Options, number: usize, coverage: &mut Coverage) -> Result
     let expected = desk::lines(&input);
     if input.len() <= desk::INPUT_MAX {
         for (line, piece) in expected.iter().zip(desk::pieces(&input)) {
-            coverage.count_served('D', number_in(line, 0), piece);
+            coverage.count('D', piece, number_in(line, 0), line);
         }
     }
     let about = |line: usize| match desk::pieces(&input).nth(line) {
@@ -110,7 +121,9 @@ fn try_probe(options: &Options, number: usize, coverage: &mut Coverage) -> Resul
     let mut probe = Probe::new();
     for record in Records::new(&script) {
         if let Some(line) = probe.step(record) {
-            count_record(coverage, record, number_in(&line, 1));
+            if let Some((call, input)) = call_of(record) {
+                coverage.count(call, &input, number_in(&line, 1), &line);
+            }
             expected.push(line);
         }
     }
@@ -119,15 +132,16 @@ fn try_probe(options: &Options, number: usize, coverage: &mut Coverage) -> Resul
         .map_err(|fault| format!("probe script {number} ({name}), seed {seed}\n{fault}"))
 }
 
-fn count_record(coverage: &mut Coverage, record: Record, number: u8) {
-    match record {
-        Record::Serve(frame) => coverage.count_served('S', number, frame),
-        Record::TakeApart(_) => coverage.count('T', number),
-        Record::Build(_) => coverage.count('B', number),
-        Record::Fresh(_) => coverage.count('F', number),
-        Record::Held(_) => coverage.count('H', number),
-        _ => {}
-    }
+/// The letter of a call and what it is given.
+fn call_of(record: Record) -> Option<(char, Vec<u8>)> {
+    Some(match record {
+        Record::Serve(frame) => ('S', frame.to_vec()),
+        Record::TakeApart(frame) => ('T', frame.to_vec()),
+        Record::Build(contents) => ('B', contents.to_vec()),
+        Record::Fresh(address) => ('F', vec![address]),
+        Record::Held(table) => ('H', table.to_be_bytes().to_vec()),
+        _ => return None,
+    })
 }
 
 /// The refusal number in a line of the model; lines without one give 0.

@@ -3,8 +3,8 @@
 use std::collections::BTreeMap;
 use std::io::{self, Write};
 
-use crate::block;
 use crate::streams::COMMANDS;
+use crate::{block, fixed};
 
 /// The calls whose numbers are counted: a letter each, a name, and the
 /// numbers that must come up.
@@ -18,22 +18,43 @@ const CALLS: [(char, &str, &[u8]); 6] = [
 ];
 
 /// How often each thing that the test must reach was reached.
-#[derive(Default)]
 pub struct Coverage {
     /// By call and number.
     numbers: BTreeMap<(char, u8), usize>,
     /// By call, command, and whether it was accepted.
     commands: BTreeMap<(char, u8, bool), usize>,
+    /// By fixed call with its line: the rules that it shows, a call each.
+    fixed: BTreeMap<fixed::Seen, (Vec<String>, usize)>,
 }
 
 impl Coverage {
-    pub fn count(&mut self, call: char, number: u8) {
-        *self.numbers.entry((call, number)).or_default() += 1;
+    pub fn new() -> Self {
+        let mut coverage = Coverage {
+            numbers: BTreeMap::new(),
+            commands: BTreeMap::new(),
+            fixed: BTreeMap::new(),
+        };
+        for (seen, rule) in fixed::wanted() {
+            coverage.fixed.entry(seen).or_default().0.push(rule);
+        }
+        coverage
     }
 
-    /// Counts a served piece; its command counts if the frame itself is good.
-    pub fn count_served(&mut self, call: char, number: u8, piece: &[u8]) {
-        self.count(call, number);
+    /// Counts a call by its letter, what it was given, its number and the
+    /// model's line for it.
+    pub fn count(&mut self, call: char, input: &[u8], number: u8, line: &str) {
+        *self.numbers.entry((call, number)).or_default() += 1;
+        if call == 'D' || call == 'S' {
+            self.count_command(call, number, input);
+        }
+        let seen = (call, input.to_vec(), line.to_string());
+        if let Some((_, count)) = self.fixed.get_mut(&seen) {
+            *count += 1;
+        }
+    }
+
+    /// The command of a served piece counts if the frame itself is good.
+    fn count_command(&mut self, call: char, number: u8, piece: &[u8]) {
         let mut contents = [0; 132];
         if block::take_apart(piece, &mut contents).is_ok() {
             let key = (call, contents[1], number == 0);
@@ -66,6 +87,11 @@ impl Coverage {
                 missing.push(format!("{name}: command {command} {word}"));
             }
         }
+        for ((_, _, line), (rules, count)) in &self.fixed {
+            if *count < rules.len() {
+                missing.push(format!("{} with the line {line}", rules.join("; ")));
+            }
+        }
         missing
     }
 
@@ -92,7 +118,13 @@ impl Coverage {
             });
             writeln!(out, "{command:>7}{desk:>25}{serve:>27}")?;
         }
-        writeln!(out)
+        let fixed = self.fixed.values();
+        let wanted: usize = fixed.clone().map(|(rules, _)| rules.len()).sum();
+        let came: usize = fixed.map(|(rules, count)| rules.len().min(*count)).sum();
+        writeln!(
+            out,
+            "\nfixed calls that came out as written: {came} of {wanted}\n"
+        )
     }
 }
 

@@ -1,7 +1,9 @@
 //! Streams for the desk program: first those with a purpose of their own,
-//! then a sweep of body lengths for each command, then sessions by chance.
+//! then the fixed calls, then a sweep of body lengths for each command, then
+//! sessions by chance.
 
 use crate::desk::INPUT_MAX;
+use crate::fixed;
 use crate::streams::{
     ask, clock, constants, errors, frame, part, piece, session, Rng, CLOCK, COMMANDS, PARTS, TABLES,
 };
@@ -59,13 +61,23 @@ const CASES: [Case; 36] = [
     ("ends", ends),
 ];
 
+/// How many streams have a purpose of their own.
+pub fn purposeful() -> usize {
+    CASES.len() + fixed::streams().len() + COMMANDS.len()
+}
+
 /// A stream and what it is for.
 pub fn stream(seed: u64, number: usize) -> (String, Vec<u8>) {
     let mut rng = Rng::new(seed, number as u64);
     if let Some((name, make)) = CASES.get(number) {
         return (name.to_string(), make(&mut rng));
     }
-    match COMMANDS.get(number - CASES.len()) {
+    let (number, mut streams) = (number - CASES.len(), fixed::streams());
+    if number < streams.len() {
+        let (name, stream) = streams.swap_remove(number);
+        return (name.to_string(), stream);
+    }
+    match COMMANDS.get(number - streams.len()) {
         Some(&command) => (
             format!("body lengths of command {command}"),
             body_lengths(&mut rng, command),

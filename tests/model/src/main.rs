@@ -3,17 +3,19 @@
 //!
 //!     model desk  < frames    the desk program's lines
 //!     model probe < script    the probe program's lines
-//!     model compare --desk PATH --probe PATH [--streams N] [--seed S] [-- PREFIX...]
+//!     model compare --desk PATH --probe PATH
+//!         [--streams N] [--seed S] [--failures M] [-- PREFIX...]
 //!
 //! The words of PREFIX are put before each program's path, for an emulator.
-//! The first fifty streams and the first forty scripts have a purpose of
-//! their own, so a smaller N leaves some of them out.
+//! Some sixty streams and scripts have a purpose of their own and come first;
+//! a smaller N leaves none of them out. The run ends early after M failures.
 
 mod block;
 mod compare;
 mod coverage;
 mod desk;
 mod desk_streams;
+mod fixed;
 mod probe;
 mod probe_scripts;
 #[cfg(test)]
@@ -25,8 +27,8 @@ use std::io::{self, Read, Write};
 use std::path::PathBuf;
 use std::process::ExitCode;
 
-const USAGE: &str = "usage: model desk | model probe | \
-    model compare --desk PATH --probe PATH [--streams N] [--seed S] [-- PREFIX...]";
+const USAGE: &str = "usage: model desk | model probe | model compare --desk PATH --probe PATH \
+    [--streams N] [--seed S] [--failures M] [-- PREFIX...]";
 
 fn main() -> ExitCode {
     let mut words = env::args().skip(1);
@@ -70,7 +72,7 @@ fn pass(limit: usize, lines: fn(&[u8]) -> Vec<String>) -> io::Result<bool> {
 
 fn options(mut words: impl Iterator<Item = String>) -> Result<compare::Options, String> {
     let (mut desk, mut probe) = (None, None);
-    let (mut streams, mut seed) = (200, 2012);
+    let (mut streams, mut seed, mut failures) = (220, 2012, usize::MAX);
     let mut prefix = Vec::new();
     while let Some(word) = words.next() {
         if word == "--" {
@@ -84,6 +86,7 @@ fn options(mut words: impl Iterator<Item = String>) -> Result<compare::Options, 
             "--probe" => probe = Some(PathBuf::from(value)),
             "--streams" => streams = value.parse().map_err(|_| not_a_number())?,
             "--seed" => seed = value.parse().map_err(|_| not_a_number())?,
+            "--failures" => failures = value.parse().map_err(|_| not_a_number())?,
             _ => return Err(format!("{word} is not known")),
         }
     }
@@ -92,6 +95,7 @@ fn options(mut words: impl Iterator<Item = String>) -> Result<compare::Options, 
         probe: probe.ok_or("--probe is missing")?,
         streams,
         seed,
+        failures,
         prefix,
     })
 }

@@ -6,8 +6,8 @@ use crate::block::{self, Refusal, IMAGE_BYTES};
 
 pub const SCRIPT_MAX: usize = 65_536;
 
-const IMAGE_ROOM: usize = 24_000;
-const OUTPUT_ROOM: usize = 400;
+pub const IMAGE_ROOM: usize = 24_000;
+pub const OUTPUT_ROOM: usize = 400;
 
 /// One record of a script.
 #[derive(Clone, Copy)]
@@ -188,7 +188,7 @@ fn number<T>(answer: &Result<T, Refusal>) -> u8 {
 }
 
 /// Short stand-in for a buffer: any changed byte changes it but by chance.
-fn digest(bytes: &[u8]) -> u64 {
+pub fn digest(bytes: &[u8]) -> u64 {
     bytes.iter().fold(1, |h, &byte| {
         (h * 257 + u64::from(byte) + 1) % 4_294_967_291
     })

@@ -1,6 +1,7 @@
 //! Scripts for the probe program: first those with a purpose of their own,
-//! then broken records, then calls by chance.
+//! then the fixed calls, then broken records, then calls by chance.
 
+use crate::fixed::{self, Session, FILL};
 use crate::probe::SCRIPT_MAX;
 use crate::streams::{ask, clock, constants, errors, frame, part, piece, session, Rng, COMMANDS};
 
@@ -35,6 +36,9 @@ const CASES: [Case; 20] = [
     ("records after 65,536 bytes", records_past_end),
 ];
 
+/// How many scripts `broken` has.
+const BROKEN: usize = 20;
+
 /// A script under construction.
 #[derive(Default)]
 pub struct Script(Vec<u8>);
@@ -65,6 +69,14 @@ impl Script {
         self.put(b'F', usize::from(address), 1)
     }
 
+    /// A letter, then these bytes.
+    fn given(&mut self, letter: u8, bytes: &[u8]) -> &mut Self {
+        self.0.push(letter);
+        self.0.extend(bytes);
+        self
+    }
+
+    /// A letter, then how many bytes, then these.
     fn counted(&mut self, letter: u8, bytes: &[u8]) -> &mut Self {
         self.put(letter, bytes.len(), 2).0.extend(bytes);
         self
@@ -92,6 +104,11 @@ impl Script {
     }
 }
 
+/// How many scripts have a purpose of their own.
+pub fn purposeful() -> usize {
+    CASES.len() + fixed::sessions().len() + BROKEN
+}
+
 /// A script and what it is for.
 pub fn script(seed: u64, number: usize) -> (String, Vec<u8>) {
     // Kept apart from the desk streams of the same seed.
@@ -99,10 +116,31 @@ pub fn script(seed: u64, number: usize) -> (String, Vec<u8>) {
     if let Some((name, make)) = CASES.get(number) {
         return (name.to_string(), make(&mut rng).0);
     }
-    match broken(number - CASES.len()) {
+    let (number, sessions) = (number - CASES.len(), fixed::sessions());
+    if let Some(session) = sessions.get(number) {
+        return (session.name.to_string(), fixed_calls(session));
+    }
+    match broken(number - sessions.len()) {
         Some(script) => ("broken record".to_string(), script.0),
         None => ("calls by chance".to_string(), by_chance(&mut rng).0),
     }
+}
+
+/// A session of fixed calls, each with an output of its own.
+pub fn fixed_calls(session: &Session) -> Vec<u8> {
+    let mut script = Script::default();
+    script.fresh(1).image_length(session.image_length);
+    if let Some((offset, value)) = session.spoiled {
+        script.poke(offset, value);
+    }
+    for step in &session.steps {
+        script.output(session.output, FILL);
+        match step.letter {
+            'F' | 'H' => script.given(step.letter as u8, &step.input),
+            letter => script.counted(letter as u8, &step.input),
+        };
+    }
+    script.0
 }
 
 fn other_addresses(_: &mut Rng) -> Script {

@@ -2,7 +2,7 @@
 
 use crate::block::{build, fresh, held_parts, serve, take_apart, Refusal, IMAGE_BYTES};
 use crate::streams::{ask, constants, errors, frame, part, Rng, FIELDS};
-use crate::{desk, probe};
+use crate::{desk, desk_streams, fixed, probe, probe_scripts};
 
 fn image_at(address: u8) -> Vec<u8> {
     let mut image = vec![0; IMAGE_BYTES];
@@ -424,4 +424,26 @@ fn probe_stops_at_a_record_cut_short() {
     assert_eq!(probe::lines(&long).len(), 1);
     long.extend(b"H\x00\x00\x00\x01");
     assert_eq!(probe::lines(&long).len(), 1);
+}
+
+#[test]
+fn fixed_calls_come_out_as_written() {
+    for session in fixed::sessions() {
+        let lines = probe::lines(&probe_scripts::fixed_calls(&session));
+        // The first line is that of the fresh image.
+        assert_eq!(lines[1..], session.probe_lines(), "{}", session.name);
+        if let Some(stream) = session.stream() {
+            assert_eq!(desk::lines(&stream), session.desk_lines());
+        }
+    }
+}
+
+#[test]
+fn scripts_with_a_purpose_are_counted_right() {
+    let last = probe_scripts::purposeful();
+    assert_eq!(probe_scripts::script(1, last - 1).0, "broken record");
+    assert_eq!(probe_scripts::script(1, last).0, "calls by chance");
+    let last = desk_streams::purposeful();
+    assert_ne!(desk_streams::stream(1, last - 1).0, "sessions by chance");
+    assert_eq!(desk_streams::stream(1, last).0, "sessions by chance");
 }
