@@ -1,44 +1,82 @@
-#!/bin/sh
-# Holds the model to itself: once as it is, which must pass, and then with
-# faults planted in what its programs print, each of which must be found.
-set -eu
-
-here=$(cd "$(dirname "$0")" && pwd)
-cargo build --release --offline --quiet --manifest-path "$here/Cargo.toml"
-model=$here/target/release/model
-work=$(mktemp -d)
+#!/usr/bin/env bash
+# Tries the comparison itself, which would also pass if it found nothing: the built programs and the model's own must pass as they are, and each
+# fault that is planted in what they print must be found. A fault that changes nothing, such as an edit that fits no line any more, has failed.
+# Needs the built programs in target/bin.
+set -uo pipefail
+cd "$(dirname "$0")/../.." || exit 1
+mapfile -t prefix < <(tests/prefix)
+[ "${#prefix[@]}" -gt 0 ] || exit 1
+cargo build --release --offline --quiet --manifest-path tests/model/Cargo.toml || exit 1
+model=tests/model/target/release/model
+work=$(mktemp -d) || exit 1
 trap 'rm -rf "$work"' EXIT
+export PLANTED=$work/changed
+passed=0 failed=0
 
-# wrapper NAME PROGRAM FILTER: a program that prints through a filter.
-wrapper() {
-    printf '#!/bin/sh\n"%s" %s%s\n' "$model" "$2" "$3" > "$work/$1"
-    chmod +x "$work/$1"
+# Compares the programs of OF with the model while a fault is planted; leaves the report and whether the fault changed anything.
+compared() { # OF WHICH END FILTER
+    local plant=(tests/model/planted "$2" "$3" "$4")
+    rm -f "$PLANTED"
+    case $1 in
+        ours) "$model" compare --desk target/bin/desk --probe target/bin/probe --streams 0 --failures 1 -- "${plant[@]}" "${prefix[@]}" ;;
+        model) "$model" compare --desk desk --probe probe --streams 0 --failures 1 -- "${plant[@]}" "$model" ;;
+    esac >"$work/report" 2>&1
 }
 
-# planted NAME DESK PROBE: the test must fail and show where.
-planted() {
-    if "$model" compare --desk "$work/$2" --probe "$work/$3" > "$work/report"; then
-        echo "not found: $1"
-        exit 1
+passes() { # WHAT
+    echo "passed: $1"
+    passed=$((passed + 1))
+}
+
+fails() { # WHAT
+    echo "FAILED: $1; the report ends with"
+    tail -n 12 "$work/report"
+    failed=$((failed + 1))
+}
+
+# What the programs print goes through a filter that leaves it as it is, so that what plants is tried too.
+unfaulted() { # OF
+    if ! compared "$1" '*' - cat; then
+        fails "$1, as they are: do not pass"
+    elif [ -e "$PLANTED" ]; then
+        fails "$1, as they are: changed"
+    else
+        passes "$1, as they are"
     fi
-    echo "found: $1"
-    sed -n '1,5p;$p' "$work/report"
 }
 
-wrapper desk desk ''
-wrapper probe probe ''
-wrapper desk-digit desk " | sed '3s/6/7/'"
-wrapper desk-short desk " | sed '200d'"
-wrapper desk-end desk " | tr -d '\\n'"
-wrapper desk-status desk '; exit 3'
-wrapper probe-digest probe " | sed '5s/1\$/2/'"
-wrapper probe-number probe " | sed 's/^H 10 /H 0 /'"
+# The comparison must fail at the program that has the fault, and show it.
+planted() { # WHAT SHOWN WHICH END FILTER
+    local of kind status
+    case $3 in
+        desk) kind='desk stream' ;;
+        probe) kind='probe script' ;;
+    esac
+    for of in ours model; do
+        compared "$of" "$3" "$4" "$5"
+        status=$?
+        if [ ! -e "$PLANTED" ]; then
+            fails "$of, $1: changed nothing"
+        elif [ "$status" -eq 0 ]; then
+            fails "$of, $1: not found"
+        elif ! grep -q "^FAILED $kind" "$work/report" || ! grep -qE "$2" "$work/report"; then
+            fails "$of, $1: the run failed for another reason"
+        else
+            passes "$of, $1: found"
+        fi
+    done
+}
 
-"$model" compare --desk "$work/desk" --probe "$work/probe"
-"$model" compare --desk "$work/desk" --probe "$work/probe" -- env | tail -n 1
-planted 'a wrong digit' desk-digit probe
-planted 'a line left out' desk-short probe
-planted 'line ends left out' desk-end probe
-planted 'a bad end' desk-status probe
-planted 'a wrong digest' desk probe-digest
-planted 'a wrong number' desk probe-number
+unfaulted ours
+unfaulted model
+planted 'a wrong digit' '^  got      7<0A>' desk - "sed '3s/6/7/'"
+planted 'a line left out' '^  line     200$' desk - "sed 200d"
+planted 'a line too many' '^  expected no line$' desk - "sed '\$a 3'"
+planted 'line ends left out' '^  got      0 :013200CD0 :01330FBD6' desk - "tr -d '\n'"
+planted 'small letters in a reply' '^  got      0 :013200cd' desk - "tr A-F a-f"
+planted 'a bad end' 'ended with exit status: 3$' desk 3 cat
+planted 'a wrong digest' '^  got      S [0-9 ]+<0A>' probe - "sed '5{s/9\$/8/;t;s/[0-8]\$/9/}'"
+planted 'a wrong number' '^  got      H 0 0 0<0A>' probe - "sed 's/^H 10 /H 0 /'"
+planted 'a bad end of the probe' 'ended with exit status: 3$' probe 3 cat
+echo "self: $passed passed, $failed failed"
+[ "$failed" -eq 0 ]
