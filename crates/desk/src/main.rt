@@ -1,35 +1,37 @@
 // The desk program: serves the frames that stand on standard input, and prints a line for each.
+use desk_run::INPUT_ROOM;
 use image::IMAGE_LENGTH;
 use libc::STDIN_FILENO;
 use libc::STDOUT_FILENO;
-ghost use Prim.Native.Nat.{_≤_};
-ghost use lib.ListN.{length};
+ghost use mathlib.Core.Path.{_≡_};
+ghost use mathlib.Core.Bool.{true};
+ghost use lib.ListN.{take};
+ghost use Rattle.desk_run.specs.Desk.{Lent, deskImage};
 
 fn main() {
-    // one byte more than is served, to know that there is more
-    let mut input = [0u8; 65537];
-    let n = io::read_full(STDIN_FILENO, &mut input);
-    if 65536 < n {
-        io::write_all(STDOUT_FILENO, b"too long\n");
-        return;
-    }
+    let mut buffer = [0u8; INPUT_ROOM];
+    let n = io::read_full(STDIN_FILENO, &mut buffer);
     let mut m = [0u8; IMAGE_LENGTH];
-    izk::fresh(&mut m, 1);
     let mut text = io::large_buffer();
-    print_all(&input[..n], &mut m, &mut text);
+    print_all(&buffer, n, &mut m, &mut text);
 }
 
-// The text goes out in portions as large as it has room for. Where one cannot be written, nobody is there to read the rest.
-fn print_all(input: &[u8], m: &mut [u8], text: &mut [u8])
-    requires { ⌜ 300 ≤ length (now text) ⌝ }
+// The text goes out in portions as large as it has room for. Where one cannot be written, nobody is there to read the rest. No promise can say
+// what a write does, so of this loop it is shown that it ends, and that it answers true only where the image is the one that the whole input
+// leaves. That the portions are together the desk's text is shown in `desk_run`.
+fn print_all(buffer: &[u8], n: usize, m: &mut [u8], text: &mut [u8]) -> bool
+    requires { ⌜ Lent (now buffer) n (now m) (now text) ⌝ }
+    ensures { λ r. ⌜ (r ≡ true → now (m .exit) ≡ deskImage (take n (now (buffer .entry))) (now (m .entry))) ⌝ }
 {
-    let mut from = 0;
-    while from < input.len() {
-        let portion = desk_run::run(input, from, m, text);
-        let n = portion.len;
-        if !io::write_all(STDOUT_FILENO, &text[..n]) {
-            return;
+    let mut portion = desk_run::start(buffer, n, m, text);
+    loop {
+        let len = portion.len;
+        if !io::write_all(STDOUT_FILENO, &text[..len]) {
+            return false;
         }
-        from = portion.from;
+        if n <= portion.from {
+            return true;
+        }
+        portion = desk_run::run(&buffer[..n], portion.from, m, text);
     }
 }

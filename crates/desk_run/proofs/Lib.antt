@@ -1,4 +1,5 @@
 pub mod Lines
 pub mod Pieces
 pub mod Ran
+pub mod Started
 pub mod Portions

@@ -43,7 +43,7 @@ ran-again v from to at at′ m m′ text text′ input R h g e l i inv = rw (l .
 
 -- ---- it gets on
 
-pub ran-grows : (v : Version) (from at : ℕ) (m text : List ℕ) (ps : List (List ℕ)) → from ≤ ran v from at m text ps .from
+ran-grows : (v : Version) (from at : ℕ) (m text : List ℕ) (ps : List (List ℕ)) → from ≤ ran v from at m text ps .from
 unfolding ran
 ran-grows v from at m text [] = omega arith
 ran-grows v from at m text (p ∷ ps) =
