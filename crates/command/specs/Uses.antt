@@ -66,7 +66,7 @@ uses =
     ∷ row 78 clock none
     ∷ []
 
--- the line of a command
+-- the line of a command; of one that is not served, none of its cells
 unfoldable pub useOf : ℕ → List Use → Use
 useOf k [] = row k none none
 useOf k (u ∷ us) = cond (eqb (u .command) k) u (useOf k us)

@@ -6,6 +6,7 @@ use Prim.Native.Nat.{ℕ, _+_, _≤_, _<_}
 use lib.ListN.{length}
 use lib.Dec.{leb, ltb}
 use Rattle.laws.specs.Bytes.{lay, zeros, codes}
+use Rattle.reorder.specs.Reorder.{final}
 use Rattle.text.specs.Cut.{pieces}
 use Rattle.image.specs.Version.{Version, current, imageLength}
 use Rattle.image.specs.Fresh.{fresh}
@@ -31,8 +32,7 @@ transcript v m (p ∷ ps) = printed v m p ++ transcript v (left v m p) ps
 
 -- the image that they leave
 unfoldable pub leftBy : Version → List ℕ → List (List ℕ) → List ℕ
-leftBy v m [] = m
-leftBy v m (p ∷ ps) = leftBy v (left v m p) ps
+leftBy v m ps = final (λ m p. (printed v m p, left v m p)) m ps
 
 -- at most 65,536 bytes are served; a longer input has the one line
 unfoldable pub tooLong : List ℕ → Bool

@@ -103,35 +103,35 @@ module _ (ear : Hearing) (ok : Lawful ear) (v : Version) (t p : ℕ) (table : is
   unfolding wrote
   wrote-done m x w = eqb-true _ _ (and-both _ _ w .0)
 
-  turn-sets : (m : List ℕ) (x : Turn) → usable v m ≡ true → partBit (inTurn ear v m x .image) ≡ cond (wrote ear v t p m x) 1 (partBit m)
+  turn-sets : (m : List ℕ) (x : Turn) → partBit (inTurn ear v m x .image) ≡ cond (wrote ear v t p m x) 1 (partBit m)
   unfolding wrote
-  turn-sets m x u = go (went ear ok v m x)
+  turn-sets m x = go (went ear ok v m x)
     where
-      by : (e : ℕ) (a : Act) (d : Cell) → ear (address m) (x .frame) ≡ Accepted e a d
+      by : usable v m ≡ true → (e : ℕ) (a : Act) (d : Cell) → ear (address m) (x .frame) ≡ Accepted e a d
           → (w : Bool) → writesPart t p (contentsOf (x .frame)) ≡ w → partBit (leaves v a d (contentsOf (x .frame)) m) ≡ cond w 1 (partBit m)
-      by e a d h true w = sets (x .frame) m u e d a h w
-      by e a d h false w = keeps (x .frame) m u e d a h w
+      by u e a d h true w = sets (x .frame) m u e d a h w
+      by u e a d h false w = keeps (x .frame) m u e d a h w
 
       go : Went ear ok v m x → partBit (inTurn ear v m x .image) ≡ cond (wrote ear v t p m x) 1 (partBit m)
       go (refused n l i) =
           ap (λ r. partBit (r .image)) i
           ∙ unwritten (wrote ear v t p m x) (partBit m) (λ w. let z : n ≡ 0 = sym (ap (λ r. r .number) i) ∙ wrote-done m x w in omega arith)
-      go (accepted e a d h i) = rw i (by e a d h (writesPart t p (contentsOf (x .frame))) refl)
+      go (accepted u e a d h i) = rw i (by u e a d h (writesPart t p (contentsOf (x .frame))) refl)
 
   -- ---- any list of turns
 
-  -- on any usable image: the bit is 1 if some turn wrote the part, else it is as it was
-  pub bit-since : (m : List ℕ) (xs : List Turn) → usable v m ≡ true → partBit (left ear v m xs) ≡ cond (everWrote ear v t m xs p) 1 (partBit m)
+  -- on any image: the bit is 1 if some turn wrote the part, else it is as it was
+  pub bit-since : (m : List ℕ) (xs : List Turn) → partBit (left ear v m xs) ≡ cond (everWrote ear v t m xs p) 1 (partBit m)
   unfolding everWrote ever
   bit-since =
-      by-turns ear ok v (λ m xs m′. partBit m′ ≡ cond (everWrote ear v t m xs p) 1 (partBit m)) (λ m u. refl)
-      (λ m x xs m′ u h. h ∙ rw (turn-sets m x u) (one-of (wrote ear v t p m x) (everWrote ear v t (inTurn ear v m x .image) xs p) (partBit m)))
+      by-turns ear ok v (λ m xs m′. partBit m′ ≡ cond (everWrote ear v t m xs p) 1 (partBit m)) (λ m. refl)
+      (λ m x xs m′ h. h ∙ rw (turn-sets m x) (one-of (wrote ear v t p m x) (everWrote ear v t (inTurn ear v m x .image) xs p) (partBit m)))
 
   -- on a fresh one: 1 exactly if some turn wrote it, else 0
-  pub held-since : (a : ℕ) (xs : List Turn) → a ≢ 0
+  pub held-since : (a : ℕ) (xs : List Turn)
       → bit (tableWord (left ear v (fresh v a) xs) (tableIndex t)) (p - 1) ≡ cond (everWrote ear v t (fresh v a) xs p) 1 0
-  held-since a xs some =
-      bit-since (fresh v a) xs (fresh-usable v a some)
+  held-since a xs =
+      bit-since (fresh v a) xs
       ∙ ap (λ (n : ℕ). cond (everWrote ear v t (fresh v a) xs p) 1 n) (fresh-bit v a (tableIndex t) (p - 1))
 
 -- ---- the held-parts question
@@ -161,12 +161,12 @@ module _ (w : ℕ) (test : ℕ → Bool) (tells : (p : ℕ) → 1 ≤ p → bit 
 
 module _ (ear : Hearing) (ok : Lawful ear) (v : Version) (a t : ℕ) (xs : List Turn) where
   -- the parts of the table that some turn wrote since the image was fresh
-  abbrev written : ℕ → Bool
-  written = everWrote ear v t (fresh v a) xs
+  abbrev wasWritten : ℕ → Bool
+  wasWritten = everWrote ear v t (fresh v a) xs
 
   -- how many they are, and the lowest part that is not among them
   pub held-parts-since : a ≢ 0 → isTable t ≡ true
-      → heldParts v (left ear v (fresh v a) xs) t ≡ record { number = 0; parts = howMany written 11; missing = leastOther written 1 11 }
+      → heldParts v (left ear v (fresh v a) xs) t ≡ record { number = 0; parts = howMany wasWritten 11; missing = leastOther wasWritten 1 11 }
   held-parts-since some table =
       held-is v _ t (left-usable ear ok v (fresh v a) xs (fresh-usable v a some)) table
-      ∙ held-told _ _ (λ p low. held-since ear ok v t p table low a xs some)
+      ∙ held-told _ _ (λ p low. held-since ear ok v t p table low a xs)

@@ -28,7 +28,7 @@ use Rattle.command.specs.Act.{says}
 use Rattle.command.specs.Reply.{done, BuffersAfter, replyIn}
 use Rattle.izk.specs.Heard.{answered, Hearing, Lawful}
 use Rattle.izk.specs.Block.{served}
-use Rattle.izk.proofs.Serving.{Accepts, answered-address, answered-usable, served-is, reply-seen, usable-stays, address-stays, zero-is-accepted}
+use Rattle.izk.proofs.Serving.{Accepts, answered-address, answered-usable, served-is, reply-seen, address-stays, zero-is-accepted}
 use Rattle.izk.proofs.Changes.{accepted-fits, accepted-leaves}
 
 -- ---- any cell
@@ -100,15 +100,14 @@ pairs = (
   pair-of 2 refl refl refl refl (λ c c′ d h n. n),
 )
 
--- so what the one stores the other replies, after the bytes it echoes
-pub written-reads-back : {w r : ℕ} (p : Pair w r) (ear : Hearing) → Lawful ear → (v : Version) (f g m out out′ : List ℕ) → usable v m ≡ true
-    → 269 ≤ length out → 269 ≤ length out′
+-- so what the one stores the other replies, after the bytes it echoes, if both were done
+pub written-reads-back : {w r : ℕ} (p : Pair w r) (ear : Hearing) → Lawful ear → (v : Version) (f g m out out′ : List ℕ)
     → byte (contentsOf f) 2 ≡ w → byte (contentsOf g) 2 ≡ r → SameBytes (p .reading .echo) (contentsOf f) (contentsOf g)
     → served ear v f m out .number ≡ 0 → served ear v g (served ear v f m out .image) out′ .number ≡ 0
     → Replies (served ear v g (served ear v f m out .image) out′) (frameOf (take (2 + p .reading .echo) (contentsOf g) ++ drop (p .from) (contentsOf f)))
-written-reads-back p ear ok v f g m out out′ u room room′ cf cg same-bytes zf zg =
-    let x = zero-is-accepted ear ok v f m out u room zf in
-    let z = zero-is-accepted ear ok v g _ out′ (usable-stays ear ok v f m out u) room′ zg in
+written-reads-back p ear ok v f g m out out′ cf cg same-bytes zf zg =
+    let (u, room, x) = zero-is-accepted ear ok v f m out zf in
+    let (u′, room′, z) = zero-is-accepted ear ok v g _ out′ zg in
     let y : Accepts ear (address m) g = rw (address-stays ear ok v f m out u) at z in
     let a = ok .follows (address m) f (p .writing) (x .verdict) (rw cf (p .written)) in
     let b = ok .follows (address m) g (p .reading) (y .verdict) (rw cg (p .read)) in

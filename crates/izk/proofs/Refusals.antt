@@ -1,7 +1,7 @@
 -- First check first, and a refusal alters nothing: of each of the five, by laws on lists of checks. Assumes nothing.
 use mathlib.Core.Path.{_≡_, refl, ap, _∙_}
 use mathlib.Core.Logic.{_≢_}
-use mathlib.Core.List.{List, [], _∷_, List·Memᴰ}
+use mathlib.Core.List.{List, [], _∷_, map, List·Memᴰ}
 use mathlib.Core.Bool.{true, false}
 use Prim.Native.Nat.{ℕ, _≤_}
 use lib.ListN.{length}
@@ -63,7 +63,17 @@ pub held-gives : (v : Version) (m : List ℕ) (t : ℕ) → Gives (heldChecks v 
 unfolding heldParts heldOf
 held-gives v m t = judged-gives (λ (h : Held). h .number) unheld (heldChecks v m t) _ (λ n. refl) (λ p. refl)
 
--- in four of the five the numbers rise along the list, in building they do not
+-- the numbers of each list, in its order
+pub lists-numbered : (v : Version) (f m out c : List ℕ) (a t : ℕ)
+    → (map (λ x. x .number) (serveChecks v f m out) ≡ 1 ∷ (2 ∷ (3 ∷ (4 ∷ (5 ∷ (6 ∷ (7 ∷ (8 ∷ (9 ∷ (10 ∷ (11 ∷ [])))))))))))
+    × (map (λ x. x .number) (apartChecks f out) ≡ 2 ∷ (3 ∷ (4 ∷ (5 ∷ (6 ∷ [])))))
+    × (map (λ x. x .number) (buildChecks c out) ≡ 3 ∷ (2 ∷ []))
+    × (map (λ x. x .number) (freshChecks v m a) ≡ 1 ∷ (11 ∷ []))
+    × (map (λ x. x .number) (heldChecks v m t) ≡ 1 ∷ (10 ∷ []))
+unfolding serveChecks frameChecks
+lists-numbered v f m out c a t = (refl, refl, refl, refl, refl)
+
+-- in four of the five they rise, in building they do not
 pub lists-rise : (v : Version) (f m out c : List ℕ) (a t : ℕ)
     → (risingFrom 0 (serveChecks v f m out) ≡ true) × (risingFrom 0 (apartChecks f out) ≡ true) × (risingFrom 0 (freshChecks v m a) ≡ true)
     × (risingFrom 0 (heldChecks v m t) ≡ true) × (risingFrom 0 (buildChecks c out) ≡ false)

@@ -150,12 +150,16 @@ module _ (ear : Hearing) (ok : Lawful ear) (v : Version) (f m out : List ℕ) wh
         go (early n i e) = rw e
         go (through _ r e) = rw e (answered-address ear ok v f m u)
 
-    -- ---- a frame is accepted if its number is 0
+  -- ---- a frame is accepted if its number is 0; then the image is usable, and there is room
 
-    pub zero-is-accepted : 269 ≤ length out → served ear v f m out .number ≡ 0 → Accepts ear (address m) f
-    unfolding answered
-    zero-is-accepted room z = go (ear (address m) f) refl (ok .numbered (address m) f) (rw (served-is ear v f m out u room) at z)
-      where
-        go : (r : Verdict) → ear (address m) f ≡ r → Numbered r → done v (ear (address m) f) (contentsOf f) m .number ≡ 0 → Accepts ear (address m) f
-        go (Refused n) e h z = let y : n ≡ 0 = rw e at z in absurd (omega arith)
-        go (Accepted x t d) e h z = record { echo = x; act = t; cell = d; verdict = e }
+  pub zero-is-accepted : served ear v f m out .number ≡ 0 → (usable v m ≡ true) × (269 ≤ length out) × Accepts ear (address m) f
+  unfolding answered
+  zero-is-accepted z = go (way ear v f m out)
+    where
+      by : (r : Verdict) → ear (address m) f ≡ r → Numbered r → done v (ear (address m) f) (contentsOf f) m .number ≡ 0 → Accepts ear (address m) f
+      by (Refused n) e h z = let y : n ≡ 0 = rw e at z in absurd (omega arith)
+      by (Accepted x t d) e h z = record { echo = x; act = t; cell = d; verdict = e }
+
+      go : Way ear v f m out → (usable v m ≡ true) × (269 ≤ length out) × Accepts ear (address m) f
+      go (early n i e) = let y : n ≡ 0 = rw e at z in absurd (omega arith)
+      go (through u r e) = (u, r, by (ear (address m) f) refl (ok .numbered (address m) f) (rw e at z))

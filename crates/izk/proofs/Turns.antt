@@ -1,5 +1,5 @@
 -- Frames served one after the other, each with any output: a turn is refused or accepted; what holds of no turn, and of a turn before any list
--- that it holds of, holds of every list; and the image stays usable. For every version of the image and every lawful hearing. Assumes nothing.
+-- that it holds of, holds of every list; and a usable image stays so. For every version of the image and every lawful hearing. Assumes nothing.
 use mathlib.Core.Path.{_≡_, refl}
 use mathlib.Core.List.{List, [], _∷_}
 use mathlib.Core.Bool.{true}
@@ -22,31 +22,32 @@ module _ (ear : Hearing) (ok : Lawful ear) (v : Version) where
 
   pub data Went (m : List ℕ) (x : Turn) : Type 0 where
     refused : (n : ℕ) → 0 < n → inTurn ear v m x ≡ sent (refusal n m) (x .out) → Went m x
-    accepted : (e : ℕ) (a : Act) (d : Cell) → ear (address m) (x .frame) ≡ Accepted e a d
+    accepted : usable v m ≡ true → (e : ℕ) (a : Act) (d : Cell) → ear (address m) (x .frame) ≡ Accepted e a d
         → inTurn ear v m x ≡ sent (done v (Accepted e a d) (contentsOf (x .frame)) m) (x .out) → Went m x
 
   pub went : (m : List ℕ) (x : Turn) → Went m x
   unfolding answered
   went m x = go (way ear v (x .frame) m (x .out))
     where
-      by : (r : Verdict) → ear (address m) (x .frame) ≡ r → Numbered r
+      by : usable v m ≡ true → (r : Verdict) → ear (address m) (x .frame) ≡ r → Numbered r
           → inTurn ear v m x ≡ sent (done v r (contentsOf (x .frame)) m) (x .out) → Went m x
-      by (Refused n) h i e = refused n (i .0) e
-      by (Accepted k a d) h i e = accepted k a d h e
+      by u (Refused n) h i e = refused n (i .0) e
+      by u (Accepted k a d) h i e = accepted u k a d h e
 
       go : Way ear v (x .frame) m (x .out) → Went m x
       go (early n i e) = refused n (i .0) e
-      go (through u r e) = by (ear (address m) (x .frame)) refl (ok .numbered (address m) (x .frame)) e
+      go (through u r e) = by u (ear (address m) (x .frame)) refl (ok .numbered (address m) (x .frame)) e
 
   -- ---- any list of turns
 
   -- R relates the image that a list finds, the list, and the image that it leaves
-  pub by-turns : (R : List ℕ → List Turn → List ℕ → Type 0) → ((m : List ℕ) → usable v m ≡ true → R m [] m)
-      → ((m : List ℕ) (x : Turn) (xs : List Turn) (m′ : List ℕ) → usable v m ≡ true → R (inTurn ear v m x .image) xs m′ → R m (x ∷ xs) m′)
-      → (m : List ℕ) (xs : List Turn) → usable v m ≡ true → R m xs (left ear v m xs)
+  pub by-turns : (R : List ℕ → List Turn → List ℕ → Type 0) → ((m : List ℕ) → R m [] m)
+      → ((m : List ℕ) (x : Turn) (xs : List Turn) (m′ : List ℕ) → R (inTurn ear v m x .image) xs m′ → R m (x ∷ xs) m′)
+      → (m : List ℕ) (xs : List Turn) → R m xs (left ear v m xs)
   unfolding left
-  by-turns R none one m [] u = none m u
-  by-turns R none one m (x ∷ xs) u = one m x xs _ u (by-turns R none one (inTurn ear v m x .image) xs (usable-stays ear ok v (x .frame) m (x .out) u))
+  by-turns R none one m [] = none m
+  by-turns R none one m (x ∷ xs) = one m x xs _ (by-turns R none one (inTurn ear v m x .image) xs)
 
   pub left-usable : (m : List ℕ) (xs : List Turn) → usable v m ≡ true → usable v (left ear v m xs) ≡ true
-  left-usable = by-turns (λ m xs m′. usable v m′ ≡ true) (λ m u. u) (λ m x xs m′ u h. h)
+  left-usable =
+      by-turns (λ m xs m′. usable v m ≡ true → usable v m′ ≡ true) (λ m u. u) (λ m x xs m′ h u. h (usable-stays ear ok v (x .frame) m (x .out) u))

@@ -1,4 +1,4 @@
--- None of the four useless blocks keeps the promise: each breaks it at an example. Assumes nothing.
+-- None of the four useless blocks keeps the promise, each breaks it at an example; yet there are such blocks, and one that keeps it. Assumes nothing.
 use mathlib.Core.Path.{_≡_, refl, sym, ap, _∙_}
 use mathlib.Core.List.{List, [], _∷_, List·Memᴰ·head, List·Memᴰ·tail}
 use mathlib.Core.Bool.{true, _&&_}
@@ -16,6 +16,8 @@ use Rattle.laws.proofs.Bytes.{length-zeros, lay-take}
 use Rattle.image.specs.Version.{current}
 use Rattle.image.specs.Fresh.{fresh}
 use Rattle.command.specs.Reply.{BuffersAfter, replyIn}
+use Rattle.izk.specs.Heard.{heard}
+use Rattle.izk.specs.Block.{served}
 use Rattle.izk.specs.Frames.{Example, ended, on, after, right, example, examples}
 use Rattle.izk.specs.Useless.{Block, Keeps, RefusesAll, RepliesTheSame, StoresNothing, EchoesLater, refusing, sameToAll, forgetting, echoing}
 use Rattle.izk.proofs.Frames.{examples-hold}
@@ -104,12 +106,32 @@ module _ (b : Block) (keeps : Keeps b) where
       (sym (reply-is P1 p1) ∙ sym (ap replyIn (call 1 (fresh current 1) ":0132CD"))
       ∙ r 0 (ended ":0132CD") (fresh current 1) (zeros 269) (rw (length-zeros 269) (omega arith)))
 
--- ---- each could be built
+-- ---- there are such blocks
 
-pub useless-blocks : RefusesAll refusing × RepliesTheSame sameToAll × StoresNothing forgetting × EchoesLater echoing
-useless-blocks = (
-  λ n f m out e. absurd (omega arith),
-  λ n k f g m out. refl,
-  λ n f m out. refl,
-  λ n f m out h. lay-take out f h (length f) (omega arith) ∙ take-length f,
-)
+-- each is of its kind, and does what its kind is known for: one replies to all, one acknowledges what it does not store, one serves its first frame
+pub record UselessBlocks : Type 0 where
+  pub refuses : RefusesAll refusing
+  pub same : RepliesTheSame sameToAll
+  pub same-replies : sameToAll 0 [] (fresh current 1) (zeros 269) .number ≡ 0
+  pub forgets : StoresNothing forgetting
+  pub acknowledges : (n : ℕ) (f m out : List ℕ) → (forgetting n f m out .number ≡ served heard current f m out .number)
+      × (replyIn (forgetting n f m out) ≡ replyIn (served heard current f m out))
+  pub echoes : EchoesLater echoing
+  pub serves-first : (f m out : List ℕ) → echoing 0 f m out ≡ served heard current f m out
+
+pub useless-blocks : UselessBlocks
+unfolding on after
+useless-blocks =
+    record {
+      refuses = λ n f m out e. absurd (omega arith);
+      same = λ n k f g m out. refl;
+      same-replies = number-is P1 p1;
+      forgets = λ n f m out. refl;
+      acknowledges = λ n f m out. (refl, refl);
+      echoes = λ n f m out h. lay-take out f h (length f) (omega arith) ∙ take-length f;
+      serves-first = λ f m out. refl;
+    }
+
+-- and there is a block that keeps the promise
+pub some-keeps : Keeps (λ n f m out. served heard current f m out)
+some-keeps n f m out = refl

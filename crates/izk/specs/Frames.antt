@@ -8,6 +8,7 @@ use lib.ListN.{getD}
 use lib.Dec.{eqb}
 use Rattle.laws.specs.Bytes.{zeros, codes}
 use Rattle.laws.specs.Checks.{same}
+use Rattle.reorder.specs.Reorder.{final}
 use Rattle.image.specs.Version.{current}
 use Rattle.image.specs.Fresh.{fresh}
 use Rattle.command.specs.Reply.{BuffersAfter, replyIn}
@@ -32,8 +33,7 @@ unfoldable pub on : List ℕ → String → BuffersAfter
 on m f = served heard current (ended f) m (zeros 269)
 
 unfoldable pub after : List ℕ → List String → List ℕ
-after m [] = m
-after m (f ∷ fs) = after (on m f .image) fs
+after m fs = final (λ m f. (on m f, on m f .image)) m fs
 
 unfoldable pub right : Example → Bool
 right l =

@@ -10,7 +10,7 @@ use Rattle.frame.specs.Apart.{lengthOk, endsOk, inner, contentsOf, sumOk}
 use Rattle.image.specs.Version.{Version}
 use Rattle.image.specs.Usable.{usable, address}
 use Rattle.rules.specs.Rules.{byte}
-use Rattle.rules.specs.Verdict.{isServed, isLong, namesOne, valuesFit}
+use Rattle.rules.specs.Verdict.{isServed, lengthFits, namesOne, valuesFit}
 
 -- a frame, an image and an output; from 7 on the tests are of the body that passed 3 to 6
 unfoldable pub serveChecks : Version → List ℕ → List ℕ → List ℕ → List Check
@@ -23,7 +23,7 @@ serveChecks v f m out =
     ∷ (check 6 (sumOk f)
     ∷ (check 7 (eqb (byte (contentsOf f) 1) (address m))
     ∷ (check 8 (isServed (contentsOf f))
-    ∷ (check 9 (isLong (contentsOf f))
+    ∷ (check 9 (lengthFits (contentsOf f))
     ∷ (check 10 (namesOne (contentsOf f))
     ∷ (check 11 (valuesFit (contentsOf f))
     ∷ []))))))))))

@@ -4,6 +4,7 @@ use mathlib.Core.List.{List, [], _∷_}
 use mathlib.Core.Bool.{Bool, false, cond, _&&_, _||_}
 use Prim.Native.Nat.{ℕ, zero, suc, _+_}
 use lib.Dec.{eqb}
+use Rattle.reorder.specs.Reorder.{final}
 use Rattle.frame.specs.Apart.{contentsOf}
 use Rattle.image.specs.Version.{Version}
 use Rattle.rules.specs.Rules.{byte}
@@ -25,8 +26,7 @@ module _ (ear : Hearing) (v : Version) where
 
   -- the image that is left in the end
   unfoldable pub left : List ℕ → List Turn → List ℕ
-  left m [] = m
-  left m (x ∷ xs) = left (inTurn m x .image) xs
+  left m xs = final (λ m x. (inTurn m x, inTurn m x .image)) m xs
 
   -- some turn met a test of the image that it found and of itself
   unfoldable pub ever : (List ℕ → Turn → Bool) → List ℕ → List Turn → Bool

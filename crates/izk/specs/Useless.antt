@@ -10,7 +10,7 @@ use Rattle.izk.specs.Heard.{heard}
 use Rattle.izk.specs.Block.{served}
 use Rattle.izk.specs.Frames.{ended}
 
--- a block as it looks from outside: its n-th call, from 0, on a frame, an image and an output. What it keeps between calls shows in n
+-- a block as it looks from outside: its n-th call, from 0, on a frame, an image and an output. Of one run of calls, what it keeps between them shows in n
 abbrev pub Block : Type 0
 Block = ℕ → List ℕ → List ℕ → List ℕ → BuffersAfter
 
@@ -32,7 +32,7 @@ StoresNothing b = (n : ℕ) (f m out : List ℕ) → b n f m out .image ≡ m
 abbrev pub EchoesLater : Block → Type 0
 EchoesLater b = (n : ℕ) (f m out : List ℕ) → length f ≤ length out → replyIn (b (suc n) f m out) ≡ f
 
--- ---- one block of each kind, so that each could be built
+-- ---- one block of each kind
 
 abbrev pub refusing : Block
 refusing n f m out = sent (refusal 8 m) out

@@ -1,5 +1,6 @@
--- A worked case of demand 3: all eleven parts of table 2 and two of table 12, written in two orders, into two kinds of outputs. The theorem's
--- premises are computed on it, so they are met by something. Assumes nothing.
+-- A worked case of demand 3: all eleven parts of table 2 and two of table 12 are written, one part is read, one signature is asked for twice and
+-- one frame is refused, in two orders, into two kinds of outputs. The theorem's premises are computed on it, so they are met by something.
+-- Assumes nothing.
 use mathlib.Core.Path.{_≡_, refl}
 use mathlib.Core.List.{List, [], _∷_, _++_, map}
 use mathlib.Core.Bool.{true}
@@ -15,7 +16,7 @@ use Rattle.frame.specs.Digits.{isDigit, valueOf, charOf, charsOf, bytesOf, chec
 use Rattle.frame.specs.Apart.{lengthOk, endsOk, inner, bodyOf, contentsOf, sumOk, frameChecks}
 use Rattle.frame.specs.Built.{frameOf}
 use Rattle.image.specs.Version.{versionNumber, current}
-use Rattle.image.specs.Cell.{when, isTable, tableIndex, partNamed}
+use Rattle.image.specs.Cell.{run, when, isTable, tableIndex, tableNamed, partNamed}
 use Rattle.image.specs.Words.{tableWord}
 use Rattle.image.specs.Usable.{markOk, addressOk, countOk, wordOk, usable}
 use Rattle.image.specs.Fresh.{fresh}
@@ -35,15 +36,24 @@ unfoldable pub partsSent : ℕ → ℕ → ℕ → List Call
 partsSent t p zero = []
 partsSent t p (suc n) = call (frameOf (1 ∷ (59 ∷ (t ∷ (p ∷ replicate 128 p))))) ∷ partsSent t (suc p) n
 
-unfoldable pub calls : List Call
-calls = partsSent 2 1 11 ++ partsSent 12 1 2
+-- two that read one cell do not clash, and one for another block clashes with none
+unfoldable pub othersSent : List Call
+othersSent =
+    call (frameOf (1 ∷ (61 ∷ (3 ∷ []))))
+    ∷ (call (frameOf (1 ∷ (61 ∷ (3 ∷ []))))
+    ∷ (call (frameOf (1 ∷ (60 ∷ (12 ∷ (3 ∷ [])))))
+    ∷ (call (frameOf (2 ∷ (51 ∷ (255 ∷ []))))
+    ∷ [])))
 
--- an order of the thirteen, and the places at which it has each
+unfoldable pub calls : List Call
+calls = partsSent 2 1 11 ++ (partsSent 12 1 2 ++ othersSent)
+
+-- an order of the seventeen, and the places at which it has each
 unfoldable pub other : List ℕ
-other = 12 ∷ (3 ∷ (0 ∷ (10 ∷ (5 ∷ (11 ∷ (1 ∷ (9 ∷ (2 ∷ (8 ∷ (4 ∷ (7 ∷ (6 ∷ []))))))))))))
+other = 14 ∷ (12 ∷ (3 ∷ (0 ∷ (16 ∷ (10 ∷ (5 ∷ (11 ∷ (1 ∷ (13 ∷ (9 ∷ (2 ∷ (8 ∷ (15 ∷ (4 ∷ (7 ∷ (6 ∷ []))))))))))))))))
 
 back : List ℕ
-back = 2 ∷ (6 ∷ (8 ∷ (1 ∷ (10 ∷ (4 ∷ (12 ∷ (11 ∷ (9 ∷ (7 ∷ (3 ∷ (5 ∷ (0 ∷ []))))))))))))
+back = 3 ∷ (8 ∷ (11 ∷ (2 ∷ (14 ∷ (6 ∷ (16 ∷ (15 ∷ (12 ∷ (10 ∷ (5 ∷ (7 ∷ (1 ∷ (9 ∷ (0 ∷ (13 ∷ (4 ∷ []))))))))))))))))
 
 undone : undoes back other ≡ true
 unfolding undoes other back every
@@ -54,8 +64,9 @@ unfolding undoes other back every
 redone = refl
 
 no-two-meet : quiet heard 1 calls ≡ true
-unfolding quiet noneMeet clear disjoint all calls partsSent heard recognised sought tried ruleOf commands when isTable tableIndex partNamed lengthOk endsOk
-    inner bodyOf contentsOf sumOk frameChecks frameOf isDigit valueOf charOf charsOf bytesOf checksumOf judged within every slice sumOf
+unfolding quiet noneMeet clear disjoint all run calls partsSent othersSent heard recognised sought tried ruleOf commands when isTable tableIndex
+    tableNamed partNamed lengthOk endsOk inner bodyOf contentsOf sumOk frameChecks frameOf isDigit valueOf charOf charsOf bytesOf checksumOf judged
+    within every slice sumOf
 no-two-meet = refl
 
 is-usable : usable current (fresh current 1) ≡ true
@@ -69,11 +80,11 @@ unfoldable pub callsAgain : List Call
 callsAgain = map refilled (pick nothing calls other)
 
 same-frames : framesOf callsAgain ≡ pick [] (framesOf calls) other
-unfolding callsAgain calls partsSent other
+unfolding callsAgain calls partsSent othersSent other
 same-frames = refl
 
 pub same-service : SameService (step heard current) (0, []) (fresh current 1) calls callsAgain other
-unfolding calls partsSent back fresh lay zeros
+unfolding calls partsSent othersSent back fresh lay zeros
 same-service =
     any-order-serves heard heard-lawful current 1 calls callsAgain other (fresh current 1) (is-usable, refl) (reorders-of back other undone redone) same-frames
     (no-clash-of heard 1 calls no-two-meet)
@@ -98,7 +109,7 @@ expected =
 -- as written, and otherwise, into the other outputs
 pub both-orders : (final (step heard current) (fresh current 1) calls ≡ expected)
     × (final (step heard current) (fresh current 1) callsAgain ≡ expected)
-unfolding calls callsAgain other partsSent rows heldWords expected served answered heard recognised sought tried stored ruleOf commands markOk addressOk
-    countOk tableWord wordOk usable fresh when isTable tableIndex partNamed lengthOk endsOk inner bodyOf contentsOf sumOk frameChecks frameOf isDigit valueOf
-    charOf charsOf bytesOf checksumOf withBit judged within every all slice lay zeros padded sumOf two wordAt
+unfolding calls callsAgain other partsSent othersSent rows heldWords expected served answered heard recognised sought tried stored ruleOf commands
+    markOk addressOk countOk tableWord wordOk usable fresh when isTable tableIndex tableNamed partNamed lengthOk endsOk inner bodyOf contentsOf sumOk
+    frameChecks frameOf isDigit valueOf charOf charsOf bytesOf checksumOf withBit judged within every all slice lay zeros padded sumOf two wordAt
 both-orders = (refl, refl)

@@ -19,7 +19,7 @@ each-outcome step e s fs gs o h k l = ap (λ x. getD x k e) (h .answers) ∙ get
 
 -- ---- what a step does not look at
 
-pub pick-map : {F L : Type 0} (look : F → L) (d : F) (fs : List F) (o : List ℕ) → map look (pick d fs o) ≡ pick (look d) (map look fs) o
+pick-map : {F L : Type 0} (look : F → L) (d : F) (fs : List F) (o : List ℕ) → map look (pick d fs o) ≡ pick (look d) (map look fs) o
 pick-map look d fs [] = refl
 pick-map look d fs (i ∷ o) = ap₂ _∷_ (sym (List·getD-map look fs i d)) (pick-map look d fs o)
 

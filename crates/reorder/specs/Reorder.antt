@@ -39,7 +39,7 @@ pub record Reorders (n : ℕ) (o : List ℕ) : Type 0 where
   pub once : (k m : ℕ) → k < m → m < length o → place o k ≢ place o m
   pub all : (i : ℕ) → i < n → (k : ℕ) × (k < length o) × (place o k ≡ i)
 
--- gs is served as fs is: what stands k-th in gs has the outcome that the place o has k-th has in fs, and the same state is left
+-- gs is served as fs is, in the order o: the k-th of gs has the outcome of the one in fs whose place stands k-th in o, and the same state is left
 module _ {S F O : Type 0} (step : S → F → O × S) (e : O) where
   pub record SameService (s : S) (fs gs : List F) (o : List ℕ) : Type 0 where
     pub answers : outcomes step s gs ≡ pick e (outcomes step s fs) o

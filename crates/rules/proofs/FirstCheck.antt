@@ -1,21 +1,26 @@
 -- A verdict's number is that of the first of checks 7 to 11 that fails: by the rule that is found, and the cell that it names. Assumes nothing.
 use mathlib.Core.Path.{_≡_, refl}
-use mathlib.Core.List.{List}
+use mathlib.Core.List.{List, [], _∷_}
 use mathlib.Core.Bool.{Bool, true, false}
 use Prim.Native.Nat.{ℕ, _+_}
 use lib.ListN.{length}
 use lib.Dec.{eqb}
-use Rattle.laws.specs.Checks.{judged, firstFailing}
+use Rattle.laws.specs.Checks.{Check, check, judged, firstFailing}
 use Rattle.image.specs.declared.cell.Named.{Named}
 use Rattle.image.specs.declared.cell.Named.the-variants as Named′
 use Rattle.rules.specs.declared.rule.Found.{Found}
 use Rattle.rules.specs.declared.rule.Found.the-variants as Found′
 use Rattle.rules.specs.declared.rule.Rule.{Rule}
 use Rattle.rules.specs.Rules.{byte, longOk, namedBy, valuesOk}
-use Rattle.rules.specs.Verdict.{tried, sought, recognised, numberOf, ruleFor, isServed, isLong, namesOne, valuesFit, bodyChecks}
+use Rattle.rules.specs.Verdict.{tried, sought, recognised, numberOf, ruleFor, isServed, lengthFits, namesOne, valuesFit}
+
+-- checks 7 to 11, of a body at a block of address a
+abbrev pub bodyChecks : ℕ → List ℕ → List Check
+bodyChecks a c =
+    check 7 (eqb (byte c 1) a) ∷ (check 8 (isServed c) ∷ (check 9 (lengthFits c) ∷ (check 10 (namesOne c) ∷ (check 11 (valuesFit c) ∷ []))))
 
 pub recognised-number : (a : ℕ) (c : List ℕ) → numberOf (recognised a c) ≡ firstFailing (bodyChecks a c)
-unfolding recognised sought tried isServed isLong namesOne valuesFit judged firstFailing
+unfolding recognised sought tried isServed lengthFits namesOne valuesFit judged firstFailing
 recognised-number a c = go (eqb (byte c 1) a) refl (ruleFor c) refl
   where
     by-rule : (r : Rule) → eqb (byte c 1) a ≡ true → ruleFor c ≡ Found′.Rule r → (l : Bool) → longOk (r .long) (length c + 1) ≡ l

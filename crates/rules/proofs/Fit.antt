@@ -22,6 +22,7 @@ use Rattle.image.specs.Stored.{FitStore}
 use Rattle.image.proofs.Cells.{extent-view}
 use Rattle.rules.specs.declared.rule.Act.{Act}
 use Rattle.rules.specs.declared.rule.Act.the-variants.{Show, Sign, Store}
+use Rattle.rules.specs.declared.rule.Found.{Found}
 use Rattle.rules.specs.declared.rule.Found.the-variants as F
 use Rattle.rules.specs.declared.rule.Long.{Long}
 use Rattle.rules.specs.declared.rule.Long.the-variants.{Is, Rowed}
@@ -173,20 +174,33 @@ tried-fits r f c = judged-fits _ _ c (λ l. go (namedBy (r .names) c) refl (l .0
     go Named′.Nothing e l = tt
     go (Named′.Cell d) e l = judged-fits _ (Accepted (r .echo) (r .act) d) c (λ t. rule-fits r f c d l e)
 
-sought-fits : (ls : List Command) → all (λ l. ruleFits (l .rule)) ls ≡ true → (c : List ℕ) → FitVerdict (sought ls c) c
-unfolding sought ruleOf all
-sought-fits [] f c = tt
-sought-fits (l ∷ ls) f c =
-    let p = and-both (ruleFits (l .rule)) (all (λ l. ruleFits (l .rule)) ls) f in
-    go (eqb (l .number) (byte c 2)) (tried-fits (l .rule) (p .0) c) (sought-fits ls (p .1) c)
+-- what all commands of a list are tested for, each that is found there has
+pub found-tested : (t : ℕ → Rule → Bool) (k : ℕ) (r : Rule) (ls : List Command) → all (λ l. t (l .number) (l .rule)) ls ≡ true
+    → ruleOf k ls ≡ F.Rule r → t k r ≡ true
+unfolding all ruleOf
+found-tested t k r [] h i = absurd (let z : _≡_ {A = ℕ} 0 1 = cc in omega arith)
+found-tested t k r (l ∷ ls) h i =
+    go (eqb (l .number) k) refl (and-both (t (l .number) (l .rule)) (all (λ l. t (l .number) (l .rule)) ls) h) i (λ g j. found-tested t k r ls g j)
   where
-    go : (t : Bool) → FitVerdict (tried (l .rule) c) c → FitVerdict (triedIf (ruleOf (byte c 2) ls) c) c
-        → FitVerdict (triedIf (cond t (F.Rule (l .rule)) (ruleOf (byte c 2) ls)) c) c
-    go true here later = here
-    go false here later = later
+    go : (b : Bool) → eqb (l .number) k ≡ b → (t (l .number) (l .rule) ≡ true) × (all (λ l. t (l .number) (l .rule)) ls ≡ true)
+        → cond b (F.Rule (l .rule)) (ruleOf k ls) ≡ F.Rule r
+        → (all (λ l. t (l .number) (l .rule)) ls ≡ true → ruleOf k ls ≡ F.Rule r → t k r ≡ true) → t k r ≡ true
+    go true e p j ih =
+        let n : l .number ≡ k = eqb-true _ _ e in
+        let q : l .rule ≡ r = cc in
+        rw (← n, ← q) (p .0)
+    go false e p j ih = ih (p .1) j
+
+sought-fits : (c : List ℕ) → FitVerdict (sought commands c) c
+unfolding sought
+sought-fits c = go (ruleOf (byte c 2) commands) refl
+  where
+    go : (x : Found) → ruleOf (byte c 2) commands ≡ x → FitVerdict (triedIf x c) c
+    go F.Nothing i = tt
+    go (F.Rule r) i = tried-fits r (found-tested (λ k x. ruleFits x) (byte c 2) r commands commands-fit i) c
 
 -- ---- every verdict fits
 
 pub recognised-fits : (a : ℕ) (c : List ℕ) → FitVerdict (recognised a c) c
 unfolding recognised
-recognised-fits a c = judged-fits _ (sought commands c) c (λ t. sought-fits commands commands-fit c)
+recognised-fits a c = judged-fits _ (sought commands c) c (λ t. sought-fits c)

@@ -1,10 +1,9 @@
 -- Command 59 stores the part that it names, and no other command stores a part: what a command stores is a test of its rule alone, and all
 -- fourteen are tested at once. Assumes nothing.
 use mathlib.Core.Path.{_≡_, refl, sym, ap, _∙_}
-use mathlib.Core.List.{List, [], _∷_}
+use mathlib.Core.List.{List}
 use mathlib.Core.Bool.{Bool, true, false, cond}
 use Prim.Native.Nat.{ℕ, _-_, _≤_}
-use native.Mathlib.Omega.{arith}
 use lib.Dec.{eqb}
 use borrow.Author.Tests.{eqb-true, eq-eqb}
 use Rattle.laws.specs.Checks.{within, all}
@@ -19,10 +18,10 @@ use Rattle.rules.specs.declared.rule.Found.the-variants as F
 use Rattle.rules.specs.declared.rule.Names.{Names}
 use Rattle.rules.specs.declared.rule.Names.the-variants as N
 use Rattle.rules.specs.declared.rule.Rule.{Rule}
-use Rattle.rules.specs.Rules.{Command, byte, commands, ruleOf}
+use Rattle.rules.specs.Rules.{byte, commands, ruleOf}
 use Rattle.rules.specs.Fits.{Follows}
 use Rattle.rules.proofs.Naming.{when-cell}
-use Rattle.rules.proofs.Fit.{kind, names}
+use Rattle.rules.proofs.Fit.{kind, names, found-tested}
 
 -- ---- the test of a rule
 
@@ -38,23 +37,6 @@ by59 k r = cond (storesPart (r .act) (r .names)) (eqb k 59) true
 commands-by-59 : all (λ l. by59 (l .number) (l .rule)) commands ≡ true
 unfolding all commands
 commands-by-59 = refl
-
--- what all commands of a list are tested for, each that is found there has
-found-tested : (t : ℕ → Rule → Bool) (k : ℕ) (r : Rule) (ls : List Command) → all (λ l. t (l .number) (l .rule)) ls ≡ true
-    → ruleOf k ls ≡ F.Rule r → t k r ≡ true
-unfolding all ruleOf
-found-tested t k r [] h i = absurd (let z : _≡_ {A = ℕ} 0 1 = cc in omega arith)
-found-tested t k r (l ∷ ls) h i =
-    go (eqb (l .number) k) refl (and-both (t (l .number) (l .rule)) (all (λ l. t (l .number) (l .rule)) ls) h) i (λ g j. found-tested t k r ls g j)
-  where
-    go : (b : Bool) → eqb (l .number) k ≡ b → (t (l .number) (l .rule) ≡ true) × (all (λ l. t (l .number) (l .rule)) ls ≡ true)
-        → cond b (F.Rule (l .rule)) (ruleOf k ls) ≡ F.Rule r
-        → (all (λ l. t (l .number) (l .rule)) ls ≡ true → ruleOf k ls ≡ F.Rule r → t k r ≡ true) → t k r ≡ true
-    go true e p j ih =
-        let n : l .number ≡ k = eqb-true _ _ e in
-        let q : l .rule ≡ r = cc in
-        rw (← n, ← q) (p .0)
-    go false e p j ih = ih (p .1) j
 
 -- ---- what an accepted body stores
 

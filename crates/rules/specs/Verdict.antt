@@ -4,7 +4,7 @@ use mathlib.Core.Bool.{Bool, true, false}
 use Prim.Native.Nat.{ℕ, _+_}
 use lib.ListN.{length}
 use lib.Dec.{eqb}
-use Rattle.laws.specs.Checks.{Check, check, judged}
+use Rattle.laws.specs.Checks.{check, judged}
 use Rattle.image.specs.declared.cell.Named.{Named}
 use Rattle.image.specs.declared.cell.Named.the-variants as Named′
 use Rattle.rules.specs.declared.rule.Found.{Found}
@@ -35,7 +35,7 @@ sought ls c = triedIf (ruleOf (byte c 2) ls) c
 unfoldable pub recognised : ℕ → List ℕ → Verdict
 recognised a c = judged Refused (check 7 (eqb (byte c 1) a) ∷ []) (sought commands c)
 
--- ---- the same five checks one below the other, each a test of its own: a later one asks nothing where an earlier one has failed
+-- ---- checks 8 to 11 as tests of their own: 9 to 11 ask nothing where 8 fails, since there is no rule to ask by
 
 abbrev pub numberOf : Verdict → ℕ
 numberOf (Refused n) = n
@@ -62,8 +62,8 @@ unfoldable pub isServed : List ℕ → Bool
 isServed c = isFound (ruleFor c)
 
 -- check 9: the body has its command's length, checksum included
-unfoldable pub isLong : List ℕ → Bool
-isLong c = ifFound (ruleFor c) (λ r. longOk (r .long) (length c + 1))
+unfoldable pub lengthFits : List ℕ → Bool
+lengthFits c = ifFound (ruleFor c) (λ r. longOk (r .long) (length c + 1))
 
 -- check 10: channel, table, part and row count name something
 unfoldable pub namesOne : List ℕ → Bool
@@ -72,7 +72,3 @@ namesOne c = ifFound (ruleFor c) (λ r. isNamed (namedBy (r .names) c))
 -- check 11: the values are inside their rules
 unfoldable pub valuesFit : List ℕ → Bool
 valuesFit c = ifFound (ruleFor c) (λ r. valuesOk (r .values) c)
-
-abbrev pub bodyChecks : ℕ → List ℕ → List Check
-bodyChecks a c =
-    check 7 (eqb (byte c 1) a) ∷ (check 8 (isServed c) ∷ (check 9 (isLong c) ∷ (check 10 (namesOne c) ∷ (check 11 (valuesFit c) ∷ []))))
