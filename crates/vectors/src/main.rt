@@ -1,20 +1,21 @@
-// Worked cases of document 01's rules, run: frames, cells, a fresh image, what is judged of one, held parts, sums, and frames served. `stdout`
-// has what document 01 says of them.
+// Worked cases of document 01's rules, run: frames, an image and what is asked of it. The cases stand in `stdin`, whose first lines say what its
+// words do; `stdout` has what document 01 says of them, a line for each line.
+mod answers;
 mod cells;
-mod frames;
-mod fresh;
-mod judge;
-mod parts;
+mod images;
 mod print;
-mod served;
-mod sums;
+mod script;
+mod steps;
+
+use image::IMAGE_LENGTH;
+use libc::STDIN_FILENO;
+
+// One byte more than an image has.
+const LONGER: usize = IMAGE_LENGTH + 1;
 
 fn main() {
-    frames::lines();
-    cells::lines();
-    fresh::lines();
-    judge::lines();
-    parts::lines();
-    sums::lines();
-    served::lines();
+    let mut text = io::large_buffer();
+    let n = io::read_full(STDIN_FILENO, &mut text);
+    let mut image = [0u8; LONGER];
+    steps::lines(&text[..n], &mut image);
 }

@@ -1,0 +1,51 @@
+-- The loop stays between its start and the end. Assumes nothing.
+use Prim.Native.Nat.{_-_, _≤_}
+use lib.ListN.{length}
+use borrow.Author.Needs.{needs}
+use Rattle.vectors.proofs.script.stop_from.Statement.{statement}
+use Rattle.vectors.proofs.script.stop_from.Tie as tie
+
+abbrev Inv-loop : tie.InvT-loop
+Inv-loop s from text i₀ i = (from ≤ i) × (i ≤ length s)
+
+abbrev μ-loop : tie.MeasureT-loop
+μ-loop s from text i₀ i = length s - i
+
+loop-holds : tie.Need-loop-holds Inv-loop μ-loop
+loop-holds c = search needs
+
+shared-slice-read-match : tie.Need-shared-slice-read-match Inv-loop μ-loop
+shared-slice-read-match c = search needs
+
+returns : tie.Need-returns Inv-loop μ-loop
+returns c = search needs
+
+returns-2 : tie.Need-returns-2 Inv-loop μ-loop
+returns-2 c = search needs
+
+add-i : tie.Need-add-i Inv-loop μ-loop
+add-i c = search needs
+
+loop-less : tie.Need-loop-less Inv-loop μ-loop
+loop-less c = search needs
+
+loop-again : tie.Need-loop-again Inv-loop μ-loop
+loop-again c = search needs
+
+returns-3 : tie.Need-returns-3 Inv-loop μ-loop
+returns-3 c = search needs
+
+pub stop-from-spec : {M : Type 1} → statement M
+stop-from-spec =
+    tie.close
+    (tie.spec
+    Inv-loop
+    μ-loop
+    loop-holds
+    shared-slice-read-match
+    returns
+    returns-2
+    add-i
+    loop-less
+    loop-again
+    returns-3)

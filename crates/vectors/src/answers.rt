@@ -1,0 +1,83 @@
+// Frames served, taken apart and built.
+use crate::print;
+use libc::STDOUT_FILENO;
+use output::Answer;
+
+// What outputs are full of beforehand.
+const FILLER: u8 = 0xEE;
+
+// Serves a frame, and prints the number and the reply as the desk program does.
+pub(crate) fn desk(frame: &[u8], image: &mut [u8]) {
+    let mut text = io::buffer();
+    let portion = desk_run::run(frame, 0, image, &mut text);
+    let n = portion.len;
+    if 0 < n {
+        let e = n - 1;
+        io::write_all(STDOUT_FILENO, &text[0..e]);
+    }
+}
+
+// The frame is built from its contents, so that its checksum is right.
+pub(crate) fn contents(bytes: &[u8], image: &mut [u8]) {
+    let mut frame = io::buffer();
+    let built = izk::build(bytes, &mut frame);
+    let n = built.len;
+    if n <= 269 {
+        desk(&frame[0..n], image);
+    }
+}
+
+// How many bytes from `from` on are as they were.
+fn kept(s: &[u8], from: usize) -> usize {
+    let mut i = from;
+    while i < s.len() {
+        if s[i] != FILLER {
+            return i - from;
+        }
+        i += 1;
+    }
+    i - from
+}
+
+fn print_bytes(s: &[u8], n: usize) {
+    let mut i = 0;
+    while i < n {
+        if i < s.len() {
+            print::next_byte(s[i]);
+        }
+        i += 1;
+    }
+}
+
+// The number, the length, how many bytes of the output behind that length are as they were, and the written bytes in hexadecimal.
+fn show(a: Answer, out: &[u8]) {
+    print::start(a.number as usize);
+    print::next(a.len);
+    print::next(kept(out, a.len));
+    print_bytes(out, a.len);
+}
+
+// The letter tells which: taking apart, building, or else serving.
+fn answer(letter: u8, s: &[u8], image: &mut [u8], out: &mut [u8]) {
+    match letter {
+        b'a' => {
+            let a = izk::take_apart(s, out);
+            show(a, out);
+        }
+        b'b' => {
+            let a = izk::build(s, out);
+            show(a, out);
+        }
+        _ => {
+            let a = izk::serve(s, image, out);
+            show(a, out);
+        }
+    }
+}
+
+pub(crate) fn answer_into(letter: u8, s: &[u8], room: usize, image: &mut [u8]) {
+    let mut space = [FILLER; 400];
+    if room <= 400 {
+        answer(letter, s, image, &mut space[0..room]);
+    }
+}

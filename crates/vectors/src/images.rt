@@ -1,0 +1,115 @@
+// What is in an image, and what is judged and asked of it.
+use crate::print;
+use image::Cell;
+use image::Named;
+use output::Cursor;
+
+pub(crate) fn put(image: &mut [u8], at: usize, bytes: &[u8]) {
+    if image.len() < at {
+        return;
+    }
+    if image.len() - at < bytes.len() {
+        return;
+    }
+    let start = Cursor { at };
+    start.put_all(image, bytes);
+}
+
+fn wide(b: u8) -> usize {
+    b as usize
+}
+
+// n bytes from `from` on.
+pub(crate) fn get(image: &[u8], from: usize, n: u8) {
+    let mut i = from;
+    let mut left = n;
+    while 0 < left {
+        if image.len() <= i {
+            return;
+        }
+        if i == from {
+            print::start(wide(image[i]));
+        } else {
+            print::next(wide(image[i]));
+        }
+        i += 1;
+        left -= 1;
+    }
+}
+
+// The offset and the value of each byte from `from` on that is not 0.
+pub(crate) fn list(image: &[u8], from: usize) {
+    let mut more = false;
+    let mut i = from;
+    while i < image.len() {
+        if image[i] != 0 {
+            if more {
+                print::text(b" ");
+            }
+            print::start(i);
+            print::text(b"=");
+            print::start(wide(image[i]));
+            more = true;
+        }
+        i += 1;
+    }
+}
+
+pub(crate) fn usable(image: &[u8]) {
+    print::start(if image::is_usable(image) { 1 } else { 0 });
+}
+
+pub(crate) fn held(image: &[u8], table: u32) {
+    let h = izk::held_parts(image, table);
+    print::start(h.number as usize);
+    print::next(h.parts as usize);
+    print::next(h.missing as usize);
+}
+
+// The sum of the first n bytes.
+pub(crate) fn total(image: &[u8], n: usize) {
+    if 65536 < n {
+        return;
+    }
+    if image.len() < n {
+        return;
+    }
+    print::start(image::sum(&image[0..n]) as usize);
+}
+
+// The bit is set in the table's word, and read back.
+fn hold(m: &mut [u8], k: u8, p: u8) -> bool {
+    if 16 <= k {
+        return false;
+    }
+    if 11 <= p {
+        return false;
+    }
+    let at = Cell::WORDS_OFFSET + Cell::WORD_SIZE * (k as usize);
+    if m.len() < at + 2 {
+        return false;
+    }
+    let w = image::word_at(m, at);
+    image::put_word(m, at, image::set_bit(w, p as u16));
+    image::has_bit(image::word_at(m, at), p as u16)
+}
+
+// As command 59 leaves the word.
+fn write(m: &mut [u8], table: u8, part: u8) -> bool {
+    let named = Cell::part(table, part);
+    match named {
+        Named::Cell(c) => match c {
+            Cell::Part(k, p) => hold(m, k, p),
+            _ => false,
+        },
+        Named::Nothing => false,
+    }
+}
+
+// Whether the bit was read back, and what is held then.
+pub(crate) fn mark(m: &mut [u8], table: u8, part: u8) {
+    let set = write(m, table, part);
+    print::start(if set { 1 } else { 0 });
+    print::text(b" ");
+    held(m, table as u32);
+}

@@ -1,0 +1,119 @@
+// The steps in turn. Each prints itself and, behind an equals sign, what comes out; in a line with text, the text and what comes out.
+use crate::answers;
+use crate::cells;
+use crate::images;
+use crate::print;
+use crate::script;
+use image::IMAGE_LENGTH;
+
+// Between two stops of a line: whether text has begun, whether there was any, and how much of the image buffer the next step is lent.
+pub struct Turn {
+    pub text: bool,
+    pub bare: bool,
+    pub long: usize,
+}
+
+// A step that prints, by its letter: its number, its bytes and the first two of them, and as much of the image as it is lent.
+fn call(letter: u8, number: u32, bytes: &[u8], a: u8, b: u8, image: &mut [u8]) {
+    let n = number as usize;
+    match letter {
+        0 => answers::contents(bytes, image),
+        b'c' => cells::cell(n, a, b),
+        b'd' => answers::desk(bytes, image),
+        b'g' => images::get(image, n, a),
+        b'h' => images::held(image, number),
+        b'i' => images::list(image, n),
+        b'm' => images::mark(image, a, b),
+        b'n' => print::start(izk::fresh(image, a) as usize),
+        b't' => images::total(image, n),
+        b'u' => images::usable(image),
+        _ => answers::answer_into(letter, bytes, n, image),
+    }
+}
+
+fn run(s: &[u8], turn: Turn, image: &mut [u8]) -> Turn {
+    let bare = turn.bare;
+    let long = turn.long;
+    if image.len() < long {
+        return turn;
+    }
+    let mut work = [0u8; 300];
+    let step = script::read(s, &mut work);
+    let letter = step.letter;
+    let number = step.number;
+    let next = step.next;
+    let a = work[1];
+    let b = work[2];
+    let bytes = &work[1..next];
+    match letter {
+        b'f' => {
+            izk::fresh(&mut image[0..long], a);
+        }
+        b'l' => {
+            return Turn {
+                text: false,
+                bare,
+                long: number as usize,
+            };
+        }
+        b'p' => images::put(image, number as usize, bytes),
+        b'w' => script::fill(image, a),
+        _ => {
+            if !bare {
+                print::text(b" = ");
+            }
+            call(letter, number, bytes, a, b, &mut image[0..long]);
+        }
+    }
+    turn
+}
+
+fn line_start() -> Turn {
+    Turn {
+        text: false,
+        bare: false,
+        long: IMAGE_LENGTH,
+    }
+}
+
+// The text or the step before a stop, and the stop.
+fn piece(s: &[u8], stop: u8, turn: Turn, image: &mut [u8]) -> Turn {
+    let text = turn.text;
+    let bare = turn.bare;
+    let long = turn.long;
+    if stop == b'|' {
+        if text {
+            print::text(s);
+        }
+        return Turn {
+            text: !text,
+            bare: true,
+            long,
+        };
+    }
+    if !bare {
+        print::text(s);
+    }
+    let after = run(s, turn, image);
+    if stop == b';' {
+        if !bare {
+            print::text(b";");
+        }
+        return after;
+    }
+    print::text(b"\n");
+    line_start()
+}
+
+pub(crate) fn lines(script: &[u8], image: &mut [u8]) {
+    let mut turn = line_start();
+    let mut from = 0;
+    while from < script.len() {
+        let stop = script::stop_from(script, from, turn.text);
+        if stop == script.len() {
+            return;
+        }
+        turn = piece(&script[from..stop], script[stop], turn, image);
+        from = stop + 1;
+    }
+}
