@@ -4,7 +4,6 @@ use image::IMAGE_LENGTH;
 use libc::STDIN_FILENO;
 use libc::STDOUT_FILENO;
 ghost use mathlib.Core.Path.{_≡_};
-ghost use mathlib.Core.Bool.{true};
 ghost use lib.ListN.{take};
 ghost use Rattle.desk_run.specs.Desk.{Lent, deskImage};
 
@@ -16,21 +15,19 @@ fn main() {
     print_all(&buffer, n, &mut m, &mut text);
 }
 
-// The text goes out in portions as large as it has room for. Where one cannot be written, nobody is there to read the rest. No promise can say
-// what a write does, so of this loop it is shown that it ends, and that it answers true only where the image is the one that the whole input
-// leaves. That the portions are together the desk's text is shown in `desk_run`.
-fn print_all(buffer: &[u8], n: usize, m: &mut [u8], text: &mut [u8]) -> bool
+// The text goes out in portions as large as it has room for. No promise can say what a write does; so of this loop it is shown that it ends, and
+// that it goes on to the input's end: the image is the one that the whole input leaves. That the portions are together the desk's text is shown
+// in `desk_run`. Where a portion cannot be written nobody is there to read the rest, and serving it does no harm.
+fn print_all(buffer: &[u8], n: usize, m: &mut [u8], text: &mut [u8])
     requires { ⌜ Lent (now buffer) n (now m) (now text) ⌝ }
-    ensures { λ r. ⌜ (r ≡ true → now (m .exit) ≡ deskImage (take n (now (buffer .entry))) (now (m .entry))) ⌝ }
+    ensures { λ _. ⌜ now (m .exit) ≡ deskImage (take n (now (buffer .entry))) (now (m .entry)) ⌝ }
 {
     let mut portion = desk_run::start(buffer, n, m, text);
     loop {
         let len = portion.len;
-        if !io::write_all(STDOUT_FILENO, &text[..len]) {
-            return false;
-        }
+        io::write_all(STDOUT_FILENO, &text[..len]);
         if n <= portion.from {
-            return true;
+            return;
         }
         portion = desk_run::run(&buffer[..n], portion.from, m, text);
     }

@@ -75,7 +75,7 @@ started v input m text =
     cond (tooLong input) long (ran v 0 0 (fresh v 1) text (pieces input))
 
 -- a function that returned r and left an image and a text has done what a says. The rest follows from that: the text is whole, and with room
--- for a line something was served
+-- for a line it moved on
 pub record Runs (a : Ran) (input : List ℕ) (from : ℕ) (r : Progress) (image : List ℕ) (text : List ℕ) : Type 0 where
   pub from-is : r .from ≡ a .from
   pub len-is : r .len ≡ a .len

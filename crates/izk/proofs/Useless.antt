@@ -112,7 +112,7 @@ module _ (b : Block) (keeps : Keeps b) where
 pub record UselessBlocks : Type 0 where
   pub refuses : RefusesAll refusing
   pub same : RepliesTheSame sameToAll
-  pub same-replies : sameToAll 0 [] (fresh current 1) (zeros 269) .number ≡ 0
+  pub same-replies : (n : ℕ) (f : List ℕ) → sameToAll n f (fresh current 1) (zeros 269) .number ≡ 0
   pub forgets : StoresNothing forgetting
   pub acknowledges : (n : ℕ) (f m out : List ℕ) → (forgetting n f m out .number ≡ served heard current f m out .number)
       × (replyIn (forgetting n f m out) ≡ replyIn (served heard current f m out))
@@ -125,7 +125,7 @@ useless-blocks =
     record {
       refuses = λ n f m out e. absurd (omega arith);
       same = λ n k f g m out. refl;
-      same-replies = number-is P1 p1;
+      same-replies = λ n f. number-is P1 p1;
       forgets = λ n f m out. refl;
       acknowledges = λ n f m out. (refl, refl);
       echoes = λ n f m out h. lay-take out f h (length f) (omega arith) ∙ take-length f;

@@ -36,7 +36,7 @@ unfoldable pub partsSent : ℕ → ℕ → ℕ → List Call
 partsSent t p zero = []
 partsSent t p (suc n) = call (frameOf (1 ∷ (59 ∷ (t ∷ (p ∷ replicate 128 p))))) ∷ partsSent t (suc p) n
 
--- two that read one cell do not clash, and one for another block clashes with none
+-- two that read the same cells do not clash, and one for another block clashes with none
 unfoldable pub othersSent : List Call
 othersSent =
     call (frameOf (1 ∷ (61 ∷ (3 ∷ []))))

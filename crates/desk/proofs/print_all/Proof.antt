@@ -1,6 +1,6 @@
 -- Each portion moves on, since the text has room for a line, and leaves the same image to come to. Assumes nothing.
 use mathlib.Core.Path.{_≡_, refl, sym, _∙_}
-use Prim.Native.Nat.{ℕ, _-_, _≤_}
+use Prim.Native.Nat.{_-_, _≤_}
 use native.Mathlib.Omega.{arith}
 use lib.ListN.{length, take, length-take}
 use lib.Seq.{length-take-le}
@@ -39,21 +39,12 @@ same-length-2 : tie.Need-same-length-2 Inv-loop μ-loop
 same-length-2 c = search needs
 
 returns : tie.Need-returns Inv-loop μ-loop
-returns c = λ e. absurd (let z : _≡_ {A = ℕ} 0 1 = cc in omega arith)
-
-same-length-3 : tie.Need-same-length-3 Inv-loop μ-loop
-same-length-3 c = search needs
-
-same-length-4 : tie.Need-same-length-4 Inv-loop μ-loop
-same-length-4 c = search needs
-
-returns-2 : tie.Need-returns-2 Inv-loop μ-loop
-returns-2 c =
-    let l = c .before .before .before .before .before in
+returns c =
+    let l = c .before .before .before .before in
     let s = l .before .before .before .before .before in
     let a = s .before .before .before .before .before .before in
     let end : length (take (a .args .n) (a .args .buffer .now)) ≤ l .loop .portion .from = omega (arith, length-take (a .args .n) (a .args .buffer .now)) in
-    λ e. sym (at-end _ _ _ end) ∙ l .loop .inv .3 ∙ after-start _ _ _ _ _ _ (a .pre .room) (s .start .ensures)
+    sym (at-end _ _ _ end) ∙ l .loop .inv .3 ∙ after-start _ _ _ _ _ _ (a .pre .room) (s .start .ensures)
 
 slice-aggregate-run : tie.Need-slice-aggregate-run Inv-loop μ-loop
 slice-aggregate-run c = sym (length-take-le _ _ (search needs))
@@ -65,15 +56,15 @@ loop-less : tie.Need-loop-less Inv-loop μ-loop
 loop-less c =
     let r = c .before .before .before .before in
     let e = r .before .before .before .before in
-    let l = e .before .before .before .before .before in
+    let l = e .before .before .before .before in
     let a = l .before .before .before .before .before .before .before .before .before .before .before in
     let long = length-take-le (a .args .n) (a .args .buffer .now) (a .pre .counted) in
-    omega (arith, r .run .ensures .onward (omega arith) (omega (arith, e .if2 .left)))
+    omega (arith, r .run .ensures .onward (omega arith) (omega (arith, e .if1 .left)))
 
 loop-again : tie.Need-loop-again Inv-loop μ-loop
 loop-again c =
     let r = c .before .before .before .before in
-    let l = r .before .before .before .before .before .before .before .before .before in
+    let l = r .before .before .before .before .before .before .before .before in
     (r .run .ensures .fits, omega arith, omega arith, after-run _ _ _ _ _ _ _ (r .run .ensures) ∙ l .loop .inv .3)
 
 pub print-all-spec : {M : Type 1} → statement M
@@ -90,9 +81,6 @@ print-all-spec =
     same-length
     same-length-2
     returns
-    same-length-3
-    same-length-4
-    returns-2
     slice-aggregate-run
     run-requires
     loop-less
