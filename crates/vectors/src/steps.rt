@@ -31,6 +31,7 @@ fn call(letter: u8, number: u32, bytes: &[u8], a: u8, b: u8, image: &mut [u8]) {
     }
 }
 
+// A step, with what it changes for those behind it in its line.
 fn run(s: &[u8], turn: Turn, image: &mut [u8]) -> Turn {
     let bare = turn.bare;
     let long = turn.long;
@@ -105,6 +106,7 @@ fn piece(s: &[u8], stop: u8, turn: Turn, image: &mut [u8]) -> Turn {
     line_start()
 }
 
+// Every line has its end.
 pub(crate) fn lines(script: &[u8], image: &mut [u8]) {
     let mut turn = line_start();
     let mut from = 0;
