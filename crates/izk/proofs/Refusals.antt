@@ -19,7 +19,7 @@ use Rattle.image.specs.Fresh.{FreshAfter, unfresh, freshChecks, freshened}
 use Rattle.image.specs.Held.{unheld, heldOf, heldChecks, heldParts}
 use Rattle.rules.specs.declared.verdict.Verdict.{Verdict}
 use Rattle.rules.specs.declared.verdict.Verdict.the-variants.{Refused, Accepted}
-use Rattle.rules.specs.Verdict.{recognised, numberOf}
+use Rattle.rules.specs.Verdict.{recognised, verdictNumber}
 use Rattle.rules.proofs.FirstCheck.{recognised-number}
 use Rattle.command.specs.Reply.{refusal, done, BuffersAfter, sent}
 use Rattle.izk.specs.Heard.{Hearing, heard, answered}
@@ -28,7 +28,7 @@ use Rattle.izk.specs.Refusals.{serveChecks}
 
 -- ---- first check first: each gives what its list of checks gives
 
-done-number : (v : Version) (r : Verdict) (c m : List ℕ) → done v r c m .number ≡ numberOf r
+done-number : (v : Version) (r : Verdict) (c m : List ℕ) → done v r c m .number ≡ verdictNumber r
 done-number v (Refused n) c m = refl
 done-number v (Accepted e a d) c m = refl
 
@@ -37,7 +37,7 @@ unfolding served answered heard serveChecks frameChecks firstFailing judged
 serve-number v f m out =
     judged-map (λ (b : BuffersAfter). b .number) (λ n. sent (refusal n m) out) outer (sent (answered heard v f m) out)
     ∙ ap (λ (n : ℕ). judged (λ n. n) outer n) (
-    done-number v (heard (address m) f) (contentsOf f) m ∙ judged-map numberOf Refused (frameChecks f) (recognised (address m) (contentsOf f))
+    done-number v (heard (address m) f) (contentsOf f) m ∙ judged-map verdictNumber Refused (frameChecks f) (recognised (address m) (contentsOf f))
     ∙ ap (λ (n : ℕ). judged (λ n. n) (frameChecks f) n) (recognised-number (address m) (contentsOf f))
     )
   where

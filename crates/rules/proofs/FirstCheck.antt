@@ -12,26 +12,26 @@ use Rattle.rules.specs.declared.rule.Found.{Found}
 use Rattle.rules.specs.declared.rule.Found.the-variants as Found′
 use Rattle.rules.specs.declared.rule.Rule.{Rule}
 use Rattle.rules.specs.Rules.{byte, longOk, namedBy, valuesOk}
-use Rattle.rules.specs.Verdict.{tried, sought, recognised, numberOf, ruleFor, isServed, lengthFits, namesOne, valuesFit}
+use Rattle.rules.specs.Verdict.{tried, sought, recognised, verdictNumber, ruleFor, isServed, lengthFits, namesOne, valuesFit}
 
 -- checks 7 to 11, of a body at a block of address a
 abbrev pub bodyChecks : ℕ → List ℕ → List Check
 bodyChecks a c =
     check 7 (eqb (byte c 1) a) ∷ (check 8 (isServed c) ∷ (check 9 (lengthFits c) ∷ (check 10 (namesOne c) ∷ (check 11 (valuesFit c) ∷ []))))
 
-pub recognised-number : (a : ℕ) (c : List ℕ) → numberOf (recognised a c) ≡ firstFailing (bodyChecks a c)
+pub recognised-number : (a : ℕ) (c : List ℕ) → verdictNumber (recognised a c) ≡ firstFailing (bodyChecks a c)
 unfolding recognised sought tried isServed lengthFits namesOne valuesFit judged firstFailing
 recognised-number a c = go (eqb (byte c 1) a) refl (ruleFor c) refl
   where
     by-rule : (r : Rule) → eqb (byte c 1) a ≡ true → ruleFor c ≡ Found′.Rule r → (l : Bool) → longOk (r .long) (length c + 1) ≡ l
         → (n : Named) → namedBy (r .names) c ≡ n → (t : Bool) → valuesOk (r .values) c ≡ t
-        → numberOf (recognised a c) ≡ firstFailing (bodyChecks a c)
+        → verdictNumber (recognised a c) ≡ firstFailing (bodyChecks a c)
     by-rule r e f false l n i t h = rw (e, f, l)
     by-rule r e f true l Named′.Nothing i t h = rw (e, f, l, i)
     by-rule r e f true l (Named′.Cell d) i false h = rw (e, f, l, i, h)
     by-rule r e f true l (Named′.Cell d) i true h = rw (e, f, l, i, h)
 
-    go : (t : Bool) → eqb (byte c 1) a ≡ t → (x : Found) → ruleFor c ≡ x → numberOf (recognised a c) ≡ firstFailing (bodyChecks a c)
+    go : (t : Bool) → eqb (byte c 1) a ≡ t → (x : Found) → ruleFor c ≡ x → verdictNumber (recognised a c) ≡ firstFailing (bodyChecks a c)
     go false e x f = rw e
     go true e Found′.Nothing f = rw (e, f)
     go true e (Found′.Rule r) f = by-rule r e f (longOk (r .long) (length c + 1)) refl (namedBy (r .names) c) refl (valuesOk (r .values) c) refl

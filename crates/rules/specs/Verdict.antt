@@ -35,11 +35,12 @@ sought ls c = triedIf (ruleOf (byte c 2) ls) c
 unfoldable pub recognised : ℕ → List ℕ → Verdict
 recognised a c = judged Refused (check 7 (eqb (byte c 1) a) ∷ []) (sought commands c)
 
--- ---- checks 8 to 11 as tests of their own: 9 to 11 ask nothing where 8 fails, since there is no rule to ask by
+-- what a verdict gives as the number: 0 if the body is accepted
+abbrev pub verdictNumber : Verdict → ℕ
+verdictNumber (Refused n) = n
+verdictNumber (Accepted e a d) = 0
 
-abbrev pub numberOf : Verdict → ℕ
-numberOf (Refused n) = n
-numberOf (Accepted e a d) = 0
+-- ---- checks 8 to 11 as tests of their own: 9 to 11 ask nothing where 8 fails, since there is no rule to ask by
 
 abbrev pub isFound : Found → Bool
 isFound Found′.Nothing = false
