@@ -2,7 +2,7 @@
 use mathlib.Core.Path.{_≡_, refl}
 use mathlib.Core.Logic.{inl, inr, _⊎_}
 use mathlib.Core.List.{List, [], _∷_}
-use mathlib.Core.Bool.{Bool, true, false, _&&_}
+use mathlib.Core.Bool.{Bool, true, false, _&&_, _||_}
 use Prim.Native.Nat.{ℕ, zero, suc, _+_, _-_, _*_, _≤_, _<_}
 use native.Mathlib.Nat.{not-suc-le-zero}
 use native.Mathlib.Omega.{arith}
@@ -16,41 +16,73 @@ use Rattle.frame.specs.Digits.{isDigit, allDigits, valueOf, charOf, byte
 
 -- ---- which characters are digits
 
+-- the three ranges
+pub data Digit (c : ℕ) : Type 0 where
+  decimal : 48 ≤ c → c ≤ 57 → Digit c
+  capital : 65 ≤ c → c ≤ 70 → Digit c
+  small : 97 ≤ c → c ≤ 102 → Digit c
+
 module _ (c : ℕ) where
-  pub digit-below : c < 48 → isDigit c ≡ false
+  outside : within 48 57 c ≡ false → within 65 70 c ≡ false → within 97 102 c ≡ false → isDigit c ≡ false
   unfolding isDigit
-  digit-below h = rw (within-below 48 57 c h, within-below 65 70 c (omega arith))
+  outside d k s = rw (d, k, s)
+
+  pub digit-below : c < 48 → isDigit c ≡ false
+  digit-below h = outside (within-below 48 57 c h) (within-below 65 70 c (omega arith)) (within-below 97 102 c (omega arith))
 
   pub digit-decimal : 48 ≤ c → c ≤ 57 → isDigit c ≡ true
   unfolding isDigit
   digit-decimal h g = rw (within-in 48 57 c h g)
 
   pub digit-between : 57 < c → c < 65 → isDigit c ≡ false
+  digit-between h g = outside (within-above 48 57 c h) (within-below 65 70 c g) (within-below 97 102 c (omega arith))
+
+  pub digit-capital : 65 ≤ c → c ≤ 70 → isDigit c ≡ true
   unfolding isDigit
-  digit-between h g = rw (within-above 48 57 c h, within-below 65 70 c g)
+  digit-capital h g = rw (within-above 48 57 c (omega arith), within-in 65 70 c h g)
 
-  pub digit-letter : 65 ≤ c → isDigit c ≡ leb c 70
+  pub digit-past : 70 < c → c < 97 → isDigit c ≡ false
+  digit-past h g = outside (within-above 48 57 c (omega arith)) (within-above 65 70 c h) (within-below 97 102 c g)
+
+  pub digit-small : 97 ≤ c → isDigit c ≡ leb c 102
   unfolding isDigit within
-  digit-letter h = rw (within-above 48 57 c (omega arith), le-leb 65 c h)
+  digit-small h = rw (within-above 48 57 c (omega arith), within-above 65 70 c (omega arith), le-leb 97 c h)
 
-  pub digit-is : isDigit c ≡ true → ((48 ≤ c) × (c ≤ 57)) ⊎ ((65 ≤ c) × (c ≤ 70))
+  pub digit-is : isDigit c ≡ true → Digit c
   unfolding isDigit
   digit-is d = go (or-either _ _ d)
     where
-      go : (within 48 57 c ≡ true) ⊎ (within 65 70 c ≡ true) → ((48 ≤ c) × (c ≤ 57)) ⊎ ((65 ≤ c) × (c ≤ 70))
-      go (inl e) = inl (within-is 48 57 c e)
-      go (inr e) = inr (within-is 65 70 c e)
+      letter : (within 65 70 c ≡ true) ⊎ (within 97 102 c ≡ true) → Digit c
+      letter (inl e) = let p = within-is 65 70 c e in capital (p .0) (p .1)
+      letter (inr e) = let p = within-is 97 102 c e in small (p .0) (p .1)
+
+      go : (within 48 57 c ≡ true) ⊎ ((within 65 70 c || within 97 102 c) ≡ true) → Digit c
+      go (inl e) = let p = within-is 48 57 c e in decimal (p .0) (p .1)
+      go (inr e) = letter (or-either _ _ e)
 
 -- ---- a digit's value, and a half's character
 
 module _ (c : ℕ) where
-  pub value-low : c < 58 → valueOf c ≡ c - 48
+  pub value-decimal : c < 58 → valueOf c ≡ c - 48
   unfolding valueOf
-  value-low h = rw (lt-ltb c 58 h)
+  value-decimal h = rw (lt-ltb c 58 h)
 
-  pub value-high : 58 ≤ c → valueOf c ≡ c - 55
+  pub value-capital : 58 ≤ c → c < 97 → valueOf c ≡ c - 55
   unfolding valueOf
-  value-high h = rw (le-ltb c 58 h)
+  value-capital h g = rw (le-ltb c 58 h, lt-ltb c 97 g)
+
+  pub value-small : 97 ≤ c → valueOf c ≡ c - 87
+  unfolding valueOf
+  value-small h = rw (le-ltb c 58 (omega arith), le-ltb c 97 h)
+
+  -- it is a half of a byte
+  pub value-half : isDigit c ≡ true → valueOf c < 16
+  value-half d = go (digit-is c d)
+    where
+      go : Digit c → valueOf c < 16
+      go (decimal l h) = rw (value-decimal (omega arith)) (omega arith)
+      go (capital l h) = rw (value-capital (omega arith) (omega arith)) (omega arith)
+      go (small l h) = rw (value-small l) (omega arith)
 
   pub char-low : c < 10 → charOf c ≡ c + 48
   unfolding charOf

@@ -1,45 +1,49 @@
--- Characters and bytes undo each other. Assumes nothing.
+-- Characters and bytes undo each other, but for the case of the letters. Assumes nothing.
 use mathlib.Core.Path.{_≡_, refl, _∙_}
-use mathlib.Core.Logic.{_⊎_, inl, inr}
 use mathlib.Core.List.{List, [], _∷_}
-use mathlib.Core.Bool.{true, _&&_}
-use Prim.Native.Nat.{ℕ, zero, suc, _+_, _-_, _*_, _/_, _%_, _≤_, _<_}
+use mathlib.Core.Bool.{true, false, _&&_}
+use Prim.Native.Nat.{ℕ, zero, suc, _+_, _-_, _*_, _/_, _%_, _<_}
 use native.Mathlib.Decide.{decLt}
 use native.Mathlib.Omega.{arith}
-use lib.ListN.{length, getD}
-use borrow.Author.Tests.{le-leb}
+use lib.ListN.{length}
 use Rattle.laws.specs.Checks.{all}
+use Rattle.laws.proofs.Bytes.{Bytes, bytes-none, bytes-cons}
 use Rattle.laws.proofs.Tests.{and-both}
-use Rattle.frame.specs.Digits.{isDigit, allDigits, valueOf, charOf, charsOf, bytesOf}
-use Rattle.frame.proofs.Chars.{digit-decimal, digit-letter, digit-is, value-low, value-high, char-low, char-high}
+use Rattle.frame.specs.Digits.{isSmall, isDigit, allDigits, valueOf, charOf, charsOf, bytesOf}
+use Rattle.frame.specs.Capitals.{capitalOf, capitalForm, noSmall}
+use Rattle.frame.proofs.Chars.{Digit, decimal, capital, small, digit-decimal, digit-capital, digit-is}
+use Rattle.frame.proofs.Chars.{value-decimal, value-capital, value-small, value-half, char-low, char-high}
+use Rattle.frame.proofs.Capitals.{small-below, capital-small, capital-other}
 
--- each element is a byte
-abbrev pub Bytes : List ℕ → Type 0
-Bytes l = (k : ℕ) → getD l k 0 < 256
+-- ---- a half's character is a digit, stands for the half and is no small letter; the character of a digit's value is the digit's capital
 
--- ---- a half's character is a digit, and stands for the half; a digit is its value's character
-
-half : (h : ℕ) → h < 16 → (isDigit (charOf h) ≡ true) × (valueOf (charOf h) ≡ h)
-half h small = go (decLt h 10)
+half : (h : ℕ) → h < 16 → (isDigit (charOf h) ≡ true) × (valueOf (charOf h) ≡ h) × (isSmall (charOf h) ≡ false)
+half h low = go (decLt h 10)
   where
-    go : Dec (h < 10) → (isDigit (charOf h) ≡ true) × (valueOf (charOf h) ≡ h)
+    go : Dec (h < 10) → (isDigit (charOf h) ≡ true) × (valueOf (charOf h) ≡ h) × (isSmall (charOf h) ≡ false)
     go (yes l) =
         let e : h + 48 - 48 ≡ h = omega arith in
-        rw (char-low h l) (digit-decimal (h + 48) (omega arith) (omega arith), value-low (h + 48) (omega arith) ∙ e)
+        let c = h + 48 in
+        rw (char-low h l) (digit-decimal c (omega arith) (omega arith), value-decimal c (omega arith) ∙ e, small-below c (omega arith))
     go (no n) =
         let e : h + 55 - 55 ≡ h = omega arith in
-        rw (char-high h (omega arith)) (digit-letter (h + 55) (omega arith) ∙ le-leb (h + 55) 70 (omega arith), value-high (h + 55) (omega arith) ∙ e)
+        let c = h + 55 in
+        rw (char-high h (omega arith))
+        (digit-capital c (omega arith) (omega arith), value-capital c (omega arith) (omega arith) ∙ e, small-below c (omega arith))
 
-digit : (c : ℕ) → isDigit c ≡ true → (charOf (valueOf c) ≡ c) × (valueOf c < 16)
+digit : (c : ℕ) → isDigit c ≡ true → charOf (valueOf c) ≡ capitalOf c
 digit c d = go (digit-is c d)
   where
-    go : ((48 ≤ c) × (c ≤ 57)) ⊎ ((65 ≤ c) × (c ≤ 70)) → (charOf (valueOf c) ≡ c) × (valueOf c < 16)
-    go (inl p) =
+    go : Digit c → charOf (valueOf c) ≡ capitalOf c
+    go (decimal l h) =
         let e : c - 48 + 48 ≡ c = omega arith in
-        rw (value-low c (omega arith)) (char-low (c - 48) (omega arith) ∙ e, omega arith)
-    go (inr p) =
+        rw (value-decimal c (omega arith), capital-other c (small-below c (omega arith))) (char-low (c - 48) (omega arith) ∙ e)
+    go (capital l h) =
         let e : c - 55 + 55 ≡ c = omega arith in
-        rw (value-high c (omega arith)) (char-high (c - 55) (omega arith) ∙ e, omega arith)
+        rw (value-capital c (omega arith) (omega arith), capital-other c (small-below c (omega arith))) (char-high (c - 55) (omega arith) ∙ e)
+    go (small l h) =
+        let e : c - 87 + 55 ≡ c - 32 = omega arith in
+        rw (value-small c l, capital-small c l h) (char-high (c - 87) (omega arith) ∙ e)
 
 -- ---- and so for lists
 
@@ -58,15 +62,32 @@ bytes-chars (b ∷ l) h =
     let e : 16 * (b / 16) + b % 16 ≡ b = omega arith in
     rw (half (b / 16) (omega arith) .1, half (b % 16) (omega arith) .1, e, bytes-chars l (λ k. h (suc k)))
 
-pub chars-bytes : (s : List ℕ) → allDigits s ≡ true → length s % 2 ≡ 0 → charsOf (bytesOf s) ≡ s
+-- what is written has no small letter
+pub capitals-chars : (l : List ℕ) → Bytes l → noSmall (charsOf l) ≡ true
+unfolding all charsOf
+capitals-chars [] h = refl
+capitals-chars (b ∷ l) h =
+    let s = h zero in
+    rw (half (b / 16) (omega arith) .2, half (b % 16) (omega arith) .2, capitals-chars l (λ k. h (suc k)))
+
+-- two digits are a byte
+pub bytes-low : (s : List ℕ) → allDigits s ≡ true → Bytes (bytesOf s)
+unfolding all bytesOf
+bytes-low [] d = bytes-none
+bytes-low (x ∷ []) d = bytes-none
+bytes-low (x ∷ (y ∷ s)) d =
+    let p = and-both (isDigit x) (isDigit y && allDigits s) d in
+    let q = and-both (isDigit y) (allDigits s) (p .1) in
+    bytes-cons _ (bytesOf s) (omega (arith, value-half x (p .0), value-half y (q .0))) (bytes-low s (q .1))
+
+pub chars-bytes : (s : List ℕ) → allDigits s ≡ true → length s % 2 ≡ 0 → charsOf (bytesOf s) ≡ capitalForm s
 unfolding all bytesOf charsOf
 chars-bytes [] d e = refl
 chars-bytes (x ∷ []) d e = absurd (omega arith)
 chars-bytes (x ∷ (y ∷ s)) d e =
     let p = and-both (isDigit x) (isDigit y && allDigits s) d in
     let q = and-both (isDigit y) (allDigits s) (p .1) in
-    let a = digit x (p .0) in
-    let b = digit y (q .0) in
+    let low = value-half y (q .0) in
     let h : (16 * valueOf x + valueOf y) / 16 ≡ valueOf x = omega arith in
     let l : (16 * valueOf x + valueOf y) % 16 ≡ valueOf y = omega arith in
-    rw (h, l, a .0, b .0, chars-bytes s (q .1) (omega arith))
+    rw (h, l, digit x (p .0), digit y (q .0), chars-bytes s (q .1) (omega arith))

@@ -2,18 +2,20 @@
 use mathlib.Core.Path.{_≡_, refl, sym, _∙_}
 use mathlib.Core.List.{List}
 use mathlib.Core.Bool.{true}
-use Prim.Native.Nat.{ℕ, _%_, _≤_}
+use Prim.Native.Nat.{ℕ, _-_, _%_, _≤_}
 use native.Mathlib.Omega.{arith}
 use lib.ListN.{length}
 use borrow.Author.Tests.{leb-true}
 use Rattle.laws.specs.Checks.{judged, firstFailing, AllPass, risingFrom}
+use Rattle.laws.proofs.Bytes.{Bytes, bytes-slice}
 use Rattle.laws.proofs.Checks as Checks
 use Rattle.laws.proofs.Checks.{Judged, judge, judged-number, judged-passed, none-fails}
 use Rattle.output.specs.Output.{OutputAfter, refuse, written}
 use Rattle.frame.specs.Digits.{allDigits}
-use Rattle.frame.specs.Apart.{endsOk, inner, contentsOf, sumOk, frameChecks, apartChecks, apart}
+use Rattle.frame.specs.Apart.{endsOk, inner, bodyOf, contentsOf, sumOk, frameChecks, apartChecks, apart}
 use Rattle.frame.proofs.Body.{length-contents}
 use Rattle.frame.proofs.Answers.{length-is, apart-checked}
+use Rattle.frame.proofs.Coding.{bytes-low}
 
 module _ (f : List ℕ) where
   rising : risingFrom 2 (frameChecks f) ≡ true
@@ -38,6 +40,10 @@ module _ (f : List ℕ) where
     pub passed-sum : sumOk f ≡ true
     unfolding frameChecks
     passed-sum = p .1 .1 .1 .0
+
+    pub contents-bytes : Bytes (contentsOf f)
+    unfolding contentsOf bodyOf
+    contents-bytes = bytes-slice 0 (length (bodyOf f) - 1) (bodyOf f) (bytes-low (inner f) passed-digits)
 
     pub contents-length : (2 ≤ length (contentsOf f)) × (length (contentsOf f) ≤ 132)
     contents-length =

@@ -1,27 +1,30 @@
--- Building and taking apart undo each other. Assumes nothing.
+-- Building and taking apart undo each other: contents come back as they were, a frame in its capital form. Assumes nothing.
 use mathlib.Core.Path.{_≡_, refl, sym, ap, _∙_}
-use mathlib.Core.List.{List, [], _∷_, _++_}
+use mathlib.Core.List.{List, [], _∷_, _++_, map-append}
 use mathlib.Core.Bool.{Bool, true, false}
-use Prim.Native.Nat.{ℕ, zero, suc, _+_, _-_, _*_, _≤_, _<_}
+use Prim.Native.Nat.{ℕ, suc, _+_, _-_, _*_, _≤_, _<_}
 use native.Mathlib.Omega.{arith}
 use lib.ListN.{length, getD, take, drop, length-append, take-append-drop}
 use lib.Seq.{take-at, getD-at, getD-append-add, take-suc, take-all, take-add, drop-length}
 use lib.Dec.{leb}
 use borrow.Author.Tests.{eq-eqb, eqb-true, leb-true}
 use Rattle.laws.specs.Bytes.{slice}
-use Rattle.laws.specs.Checks.{judged, AllPass, within}
-use Rattle.laws.proofs.Tests.{within-is}
+use Rattle.laws.specs.Checks.{judged, AllPass, within, all}
+use Rattle.laws.proofs.Bytes.{Bytes, bytes-none, bytes-cons, bytes-append}
+use Rattle.laws.proofs.Tests.{within-is, all-then}
 use Rattle.laws.proofs.Walks.{next2}
 use Rattle.output.specs.declared.answer.Answer.{Answer}
 use Rattle.output.specs.Output.{written, Does}
 use Rattle.output.proofs.Outcomes.{stands-there}
 use Rattle.frame.specs.Digits.{allDigits, charsOf, checksumOf}
+use Rattle.frame.specs.Capitals.{capitalOf, capitalForm, noSmall}
 use Rattle.frame.specs.Apart.{lengthOk, endsOk, inner, bodyOf, contentsOf, sumOk, frameChecks, apart}
 use Rattle.frame.specs.Built.{frameOf, built}
 use Rattle.frame.proofs.FrameLaid.{length-chars, length-frame}
 use Rattle.frame.proofs.Body.{length-inner, length-body}
 use Rattle.frame.proofs.Answers.{length-right, ends-are, ends-third, built-done}
-use Rattle.frame.proofs.Coding.{Bytes, digits-chars, bytes-chars, chars-bytes}
+use Rattle.frame.proofs.Capitals.{capital-self, capital-long}
+use Rattle.frame.proofs.Coding.{digits-chars, bytes-chars, capitals-chars, chars-bytes}
 use Rattle.frame.proofs.Passing.{apart-passed, passed-length, passed-ends, passed-digits, passed-sum, contents-length, taken-0}
 
 -- ---- a built frame is taken apart
@@ -33,12 +36,6 @@ body c = c ++ (checksumOf c ∷ [])
 length-whole : (c : List ℕ) → length (body c) ≡ length c + 1
 unfolding body
 length-whole c = length-append c (checksumOf c ∷ [])
-
-bytes-whole : (c : List ℕ) (b : ℕ) → b < 256 → Bytes c → Bytes (c ++ (b ∷ []))
-bytes-whole [] b s h zero = s
-bytes-whole [] b s h (suc k) = h zero
-bytes-whole (x ∷ c) b s h zero = h zero
-bytes-whole (x ∷ c) b s h (suc k) = bytes-whole c b s (λ j. h (suc j)) k
 
 module _ (c : List ℕ) where
   inner-frame : inner (frameOf c) ≡ charsOf (body c)
@@ -61,7 +58,7 @@ module _ (c : List ℕ) where
   module _ (bytes : Bytes c) where
     whole : Bytes (body c)
     unfolding body checksumOf
-    whole = bytes-whole c (checksumOf c) (omega arith) bytes
+    whole = bytes-append c (checksumOf c ∷ []) bytes (bytes-cons (checksumOf c) [] (omega arith) bytes-none)
 
     body-frame : bodyOf (frameOf c) ≡ body c
     unfolding bodyOf
@@ -79,6 +76,11 @@ module _ (c : List ℕ) where
         let e : length (body c) - 1 ≡ length c = omega (arith, length-whole c) in
         rw (body-frame, contents-frame, e) (eq-eqb _ _ (getD-at c (checksumOf c) [] 0 (length c) refl))
 
+    -- what is written has no small letter
+    pub frame-in-capitals : noSmall (frameOf c) ≡ true
+    unfolding frameOf body all within
+    frame-in-capitals = all-then _ (charsOf (body c)) (13 ∷ (10 ∷ [])) (capitals-chars (body c) whole) refl
+
     module _ (low : 2 ≤ length c) (high : length c ≤ 132) where
       pub frame-passes : AllPass (frameChecks (frameOf c))
       unfolding frameChecks
@@ -91,7 +93,7 @@ module _ (c : List ℕ) where
       pub built-then-apart : (out : List ℕ) → 132 ≤ length out → apart (frameOf c) out ≡ written out c
       built-then-apart out room = apart-passed (frameOf c) out room frame-passes ∙ ap (written out) contents-frame
 
--- ---- a frame that is taken apart is built again
+-- ---- a frame that is taken apart is built again, in capitals
 
 -- a list is all but its last, and its last
 last-split : (l : List ℕ) (n : ℕ) → length l ≡ n + 1 → take n l ++ (getD l n 0 ∷ []) ≡ l
@@ -118,6 +120,11 @@ module _ (f : List ℕ) (p : AllPass (frameChecks f)) where
   frame-is : f ≡ 58 ∷ (inner f ++ (13 ∷ (10 ∷ [])))
   frame-is = sym (take-append-drop (length f - 2) f) ∙ rw (head-is, tail-is)
 
+  -- its ends are no letters
+  capitals-are : 58 ∷ (capitalForm (inner f) ++ (13 ∷ (10 ∷ []))) ≡ capitalForm f
+  unfolding capitalOf within
+  capitals-are = ap (λ (t : List ℕ). 58 ∷ t) (sym (map-append capitalOf (inner f) (13 ∷ (10 ∷ [])))) ∙ ap capitalForm (sym frame-is)
+
   body-is : contentsOf f ++ (checksumOf (contentsOf f) ∷ []) ≡ bodyOf f
   unfolding sumOk contentsOf slice
   body-is =
@@ -126,24 +133,33 @@ module _ (f : List ℕ) (p : AllPass (frameChecks f)) where
       let k : getD (bodyOf f) (length (bodyOf f) - 1) 0 ≡ checksumOf (contentsOf f) = eqb-true _ _ (passed-sum f p) in
       rw (← k) (last-split (bodyOf f) (length (bodyOf f) - 1) m)
 
-  pub frame-back : frameOf (contentsOf f) ≡ f
+  frame-capitals : frameOf (contentsOf f) ≡ capitalForm f
   unfolding frameOf bodyOf
-  frame-back =
+  frame-capitals =
       let l = passed-length f p in
-      rw (body-is, chars-bytes (inner f) (passed-digits f p) (omega (arith, length-inner f (l .0)))) (sym frame-is)
+      rw (body-is, chars-bytes (inner f) (passed-digits f p) (omega (arith, length-inner f (l .0)))) capitals-are
 
-pub apart-then-built : (f out : List ℕ) → apart f out .number ≡ 0 → (frameOf (contentsOf f) ≡ f) × (2 ≤ length (contentsOf f)) × (length (contentsOf f) ≤ 132)
-apart-then-built f out z =
-    let p = taken-0 f out z .1 in
-    let n = contents-length f p in
-    (frame-back f p, n .0, n .1)
+module _ (f out : List ℕ) (z : apart f out .number ≡ 0) where
+  pub apart-then-capitals : (frameOf (contentsOf f) ≡ capitalForm f) × (2 ≤ length (contentsOf f)) × (length (contentsOf f) ≤ 132)
+  apart-then-capitals =
+      let p = taken-0 f out z .1 in
+      let n = contents-length f p in
+      (frame-capitals f p, n .0, n .1)
 
--- so, with room for it, building what was taken apart writes the same frame
-pub apart-then-written : (f out left : List ℕ) → apart f out .number ≡ 0 → length f ≤ length left → built (contentsOf f) left ≡ written left f
-apart-then-written f out left z room =
-    let e = apart-then-built f out z in
-    let n : 2 * length (contentsOf f) + 5 ≤ length left = omega (arith, length-frame (contentsOf f), ap length (e .0)) in
-    built-done (contentsOf f) left (e .1) (e .2) n ∙ ap (written left) (e .0)
+  -- so, with room for it, building what was taken apart writes the capital form
+  pub apart-then-capitals-written : (left : List ℕ) → length f ≤ length left → built (contentsOf f) left ≡ written left (capitalForm f)
+  apart-then-capitals-written left room =
+      let e = apart-then-capitals in
+      let n : 2 * length (contentsOf f) + 5 ≤ length left = omega (arith, length-frame (contentsOf f), ap length (e .0), capital-long f) in
+      built-done (contentsOf f) left (e .1) (e .2) n ∙ ap (written left) (e .0)
+
+  -- and where the frame has no small letter, the frame
+  module _ (n : noSmall f ≡ true) where
+    pub apart-then-built : (frameOf (contentsOf f) ≡ f) × (2 ≤ length (contentsOf f)) × (length (contentsOf f) ≤ 132)
+    apart-then-built = let e = apart-then-capitals in (e .0 ∙ capital-self f n, e .1, e .2)
+
+    pub apart-then-written : (left : List ℕ) → length f ≤ length left → built (contentsOf f) left ≡ written left f
+    apart-then-written left room = apart-then-capitals-written left room ∙ ap (written left) (capital-self f n)
 
 -- ---- the same of what the two functions leave, by their promises
 
@@ -169,11 +185,15 @@ module _ (r s : Answer) (out left out′ left′ : List ℕ) where
       rw (t, built-then-apart c bytes (n .0) (n .1) out′ room) at e
 
   -- the bytes that taking apart left, built
-  pub take-apart-then-build : (f : List ℕ) → Does (apart f out) r left → r .number ≡ 0 → length f ≤ length out′
-      → Does (built (take (r .len) left) out′) s left′ → Does (written out′ f) s left′
-  take-apart-then-build f d z room e =
+  pub take-apart-then-build-capitals : (f : List ℕ) → Does (apart f out) r left → r .number ≡ 0 → length f ≤ length out′
+      → Does (built (take (r .len) left) out′) s left′ → Does (written out′ (capitalForm f)) s left′
+  take-apart-then-build-capitals f d z room e =
       let n = sym (d .number-is) ∙ z in
       let p = taken-0 f out n in
       let t : take (r .len) left ≡ contentsOf f =
       stands-there out left (contentsOf f) r (omega (arith, contents-length f (p .1))) (rw (apart-passed f out (p .0) (p .1)) at d) in
-      rw (t, apart-then-written f out out′ n room) at e
+      rw (t, apart-then-capitals-written f out n out′ room) at e
+
+  pub take-apart-then-build : (f : List ℕ) → noSmall f ≡ true → Does (apart f out) r left → r .number ≡ 0 → length f ≤ length out′
+      → Does (built (take (r .len) left) out′) s left′ → Does (written out′ f) s left′
+  take-apart-then-build f n d z room e = rw (capital-self f n) at (take-apart-then-build-capitals f d z room e)

@@ -6,18 +6,22 @@ use lib.Dec.{ltb}
 use Rattle.laws.specs.Bytes.{sumOf}
 use Rattle.laws.specs.Checks.{within, all}
 
--- a digit is one of 48..57 and 65..70. 001's own decoding rule has no such test and would read 58..64 as something
+-- a to f, as the northern panels write them (document 02, request 2)
+abbrev pub isSmall : ℕ → Bool
+isSmall c = within 97 102 c
+
+-- a digit is one of 48..57, 65..70 and 97..102. 001's own decoding rule has no such test and would read 58..64 as something
 unfoldable pub isDigit : ℕ → Bool
-isDigit c = within 48 57 c || within 65 70 c
+isDigit c = within 48 57 c || (within 65 70 c || isSmall c)
 
 abbrev pub allDigits : List ℕ → Bool
 allDigits cs = all isDigit cs
 
--- what a digit stands for
+-- what a digit stands for, each by itself: a small letter for what its capital does
 unfoldable pub valueOf : ℕ → ℕ
-valueOf c = cond (ltb c 58) (c - 48) (c - 55)
+valueOf c = cond (ltb c 58) (c - 48) (cond (ltb c 97) (c - 55) (c - 87))
 
--- a half of a byte is sent as itself plus 48 below 10, else plus 55
+-- a half of a byte is sent as itself plus 48 below 10, else plus 55: a letter that is written is a capital
 unfoldable pub charOf : ℕ → ℕ
 charOf h = cond (ltb h 10) (h + 48) (h + 55)
 

@@ -1,3 +1,4 @@
 pub mod Digits
+pub mod Capitals
 pub mod Apart
 pub mod Built

@@ -19,7 +19,13 @@ fn is_digit(c: u8) -> bool
     if c < 65 {
         return false;
     }
-    c <= 70
+    if c <= 70 {
+        return true;
+    }
+    if c < 97 {
+        return false;
+    }
+    c <= 102
 }
 
 pub(crate) fn all_digits(s: &[u8]) -> bool
@@ -39,7 +45,10 @@ fn value_of(c: u8) -> u8
     requires { ⌜ isDigit c ≡ true ⌝ }
     ensures { λ r. ⌜ (r ≡ valueOf c) × (r < 16) ⌝ }
 {
-    if c < 58 { c - 48 } else { c - 55 }
+    if c < 58 {
+        return c - 48;
+    }
+    if c < 97 { c - 55 } else { c - 87 }
 }
 
 pub(crate) fn char_of(h: u8) -> u8

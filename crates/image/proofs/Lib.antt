@@ -8,5 +8,6 @@ pub mod OneOutcome
 pub mod Stretches
 pub mod Touches
 pub mod Stores
+pub mod Signatures
 pub mod Elsewhere
 pub mod Storing

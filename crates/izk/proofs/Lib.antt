@@ -5,6 +5,7 @@ pub mod Serving
 pub mod Changes
 pub mod ReadBack
 pub mod OneOutcome
+pub mod Capitals
 pub mod HeldAfter
 pub mod Turns
 pub mod HeldSince

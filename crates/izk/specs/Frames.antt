@@ -1,4 +1,5 @@
--- Document 01's frames P1 to P12 ("Frames to hold the block to"), as one list with one test. Assumes nothing.
+-- Document 01's frames P1 to P12 ("Frames to hold the block to"), P4 as request 2 of document 02 has it, as one list with one test. Assumes
+-- nothing.
 use mathlib.Core.List.{List, [], _∷_, _++_}
 use mathlib.Core.Bool.{Bool, _&&_}
 use Prim.Native.Nat.{ℕ}
@@ -48,7 +49,7 @@ examples =
     example [] ":0132CD" 0 ":013200CD" 0
     ∷ example [] ":01330FBD" 0 ":01330FBD" 15
     ∷ example [] ":0132CE" 6 "" 0
-    ∷ example [] ":0132cD" 5 "" 0
+    ∷ example [] ":0132cD" 0 ":013200CD" 0
     ∷ example [] ":0232CC" 7 "" 0
     ∷ example [] ":0153AC" 8 "" 0
     ∷ example [] ":013608C1" 10 "" 0

@@ -1,6 +1,6 @@
 -- Laws of `slice`, `lay` and what is counted of bytes. Assumes nothing.
 use mathlib.Core.Path.{_≡_, refl, sym, ap, _∙_}
-use mathlib.Core.List.{List, [], _∷_, _++_, append-assoc}
+use mathlib.Core.List.{List, [], _∷_, _++_, map, append-assoc}
 use Prim.Native.Nat.{ℕ, zero, suc, _+_, _-_, _/_, _%_, _≤_, _<_}
 use native.Mathlib.Nat.{not-suc-le-zero}
 use native.Mathlib.Numerals.{add-one}
@@ -9,6 +9,10 @@ use lib.ListN.{length, getD, take, drop, set, length-take, length-drop, length-s
 use lib.Seq.{sets, length-sets, sets-eq, set-comm, getD-set-same, getD-set-other, getD-take, getD-drop, ext-getD, take-at, drop-at, take-append-le}
 use lib.Seq.{length-take-le}
 use Rattle.laws.specs.Bytes.{slice, lay, zeros, padded, two, wordAt}
+
+-- each element is a byte
+abbrev pub Bytes : List ℕ → Type 0
+Bytes l = (k : ℕ) → getD l k 0 < 256
 
 -- i lies in the n bytes from a
 abbrev pub In : ℕ → ℕ → ℕ → Type 0
@@ -166,6 +170,48 @@ slice-same m m′ a n e h =
     ext-getD 0 _ _ (simp (length-take, length-drop, e))
     (λ k l. let lt : k < n = omega (arith, simp length-take at l) in simp (getD-take, getD-drop) (h (a + k) (omega arith, omega arith)))
 
+module _ (g : ℕ → ℕ) where
+  take-map : (n : ℕ) (l : List ℕ) → take n (map g l) ≡ map g (take n l)
+  take-map zero l = refl
+  take-map (suc n) [] = refl
+  take-map (suc n) (x ∷ l) = ap (λ (t : List ℕ). g x ∷ t) (take-map n l)
+
+  drop-map : (n : ℕ) (l : List ℕ) → drop n (map g l) ≡ map g (drop n l)
+  drop-map zero l = refl
+  drop-map (suc n) [] = refl
+  drop-map (suc n) (x ∷ l) = drop-map n l
+
+  pub slice-map : (from n : ℕ) (l : List ℕ) → slice from n (map g l) ≡ map g (slice from n l)
+  unfolding slice
+  slice-map from n l = ap (take n) (drop-map from l) ∙ take-map n (drop from l)
+
+-- ---- bytes, put together and cut
+
+pub bytes-none : Bytes []
+bytes-none k = omega arith
+
+pub bytes-cons : (b : ℕ) (l : List ℕ) → b < 256 → Bytes l → Bytes (b ∷ l)
+bytes-cons b l low h zero = low
+bytes-cons b l low h (suc k) = h k
+
+pub bytes-append : (a b : List ℕ) → Bytes a → Bytes b → Bytes (a ++ b)
+bytes-append [] b g h = h
+bytes-append (x ∷ a) b g h = bytes-cons x (a ++ b) (g zero) (bytes-append a b (λ k. g (suc k)) h)
+
+pub bytes-take : (n : ℕ) (l : List ℕ) → Bytes l → Bytes (take n l)
+bytes-take zero l h = bytes-none
+bytes-take (suc n) [] h = h
+bytes-take (suc n) (x ∷ l) h = bytes-cons x (take n l) (h zero) (bytes-take n l (λ k. h (suc k)))
+
+pub bytes-slice : (from n : ℕ) (l : List ℕ) → Bytes l → Bytes (slice from n l)
+unfolding slice
+bytes-slice from n l h = bytes-take n (drop from l) (rest from l h)
+  where
+    rest : (i : ℕ) (l : List ℕ) → Bytes l → Bytes (drop i l)
+    rest zero l h = h
+    rest (suc i) [] h = h
+    rest (suc i) (x ∷ l) h = rest i l (λ k. h (suc k))
+
 -- ---- padding, and numbers of two bytes
 
 pub length-zeros : (n : ℕ) → length (zeros n) ≡ n
@@ -204,6 +250,10 @@ padded-at n bs k h = List·getD-append bs (zeros (n - length bs)) 0 k h
 pub length-two : (v : ℕ) → length (two v) ≡ 2
 unfolding two
 length-two v = refl
+
+pub bytes-two : (v : ℕ) → v < 65536 → Bytes (two v)
+unfolding two
+bytes-two v h = bytes-cons (v / 256) (v % 256 ∷ []) (omega arith) (bytes-cons (v % 256) [] (omega arith) bytes-none)
 
 pub word-two : (m : List ℕ) (a v : ℕ) → a + 2 ≤ length m → wordAt (lay m a (two v)) a ≡ v
 unfolding wordAt two

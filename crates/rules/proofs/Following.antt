@@ -3,7 +3,7 @@ use mathlib.Core.Path.{_≡_, refl, sym, ap, _∙_}
 use mathlib.Core.List.{List}
 use Prim.Native.Nat.{ℕ}
 use native.Mathlib.Omega.{arith}
-use Rattle.laws.specs.Checks.{Check, judged}
+use Rattle.laws.specs.Checks.{Check, judged, AllPass}
 use Rattle.laws.proofs.Checks.{Judged, passed, failed, judge, judged-passed}
 use Rattle.image.specs.declared.cell.Cell.{Cell}
 use Rattle.image.specs.declared.cell.Named.{Named}
@@ -20,12 +20,15 @@ use Rattle.rules.specs.Fits.{Follows}
 
 module _ {e : ℕ} {a : Act} {d : Cell} where
   -- what is accepted has passed the checks
-  pub accepted-past : (cs : List Check) (r : Verdict) → judged Refused cs r ≡ Accepted e a d → r ≡ Accepted e a d
-  accepted-past cs r h = go (judge cs)
+  pub accepted-passes : (cs : List Check) (r : Verdict) → judged Refused cs r ≡ Accepted e a d → AllPass cs
+  accepted-passes cs r h = go (judge cs)
     where
-      go : Judged cs → r ≡ Accepted e a d
-      go (passed p) = sym (judged-passed Refused cs r p) ∙ h
+      go : Judged cs → AllPass cs
+      go (passed p) = p
       go (failed n i g) = absurd (let z : _≡_ {A = ℕ} 0 1 = cc (g Verdict Refused r) in omega arith)
+
+  pub accepted-past : (cs : List Check) (r : Verdict) → judged Refused cs r ≡ Accepted e a d → r ≡ Accepted e a d
+  accepted-past cs r h = sym (judged-passed Refused cs r (accepted-passes cs r h)) ∙ h
 
   pub recognised-follows : (b : ℕ) (c : List ℕ) (r : Rule) → recognised b c ≡ Accepted e a d → ruleOf (byte c 2) commands ≡ F.Rule r → Follows e a d r c
   unfolding recognised sought tried
