@@ -12,7 +12,7 @@ use borrow.Author.Tests.{lt-ltb, le-ltb, le-leb}
 use Rattle.laws.specs.Checks.{within, all}
 use Rattle.laws.proofs.Tests.{and-both, or-either, within-is, within-in, within-below, within-above}
 use Rattle.laws.proofs.Walks.{next, next2, none-left}
-use Rattle.frame.specs.Digits.{isDigit, allDigits, valueOf, charOf, bytesOf}
+use Rattle.frame.specs.Digits.{isSmall, isDigit, allDigits, valueOf, charOf, bytesOf}
 
 -- ---- which characters are digits
 
@@ -23,7 +23,7 @@ pub data Digit (c : ℕ) : Type 0 where
   small : 97 ≤ c → c ≤ 102 → Digit c
 
 module _ (c : ℕ) where
-  outside : within 48 57 c ≡ false → within 65 70 c ≡ false → within 97 102 c ≡ false → isDigit c ≡ false
+  outside : within 48 57 c ≡ false → within 65 70 c ≡ false → isSmall c ≡ false → isDigit c ≡ false
   unfolding isDigit
   outside d k s = rw (d, k, s)
 
