@@ -184,16 +184,19 @@ fn decode<'a>(frame: &[u8], body: &'a mut [u8; BODY_MAX]) -> Result<&'a [u8], Re
     Ok(&body[..digits.len() / 2 - 1])
 }
 
-/// Small letters and the characters between 9 and A are no digits here.
+/// Document 02, wish 2: reading takes either case in each digit. Characters
+/// outside the three ranges are no digits.
 fn half(character: u8) -> Result<u8, Refusal> {
     match character {
         b'0'..=b'9' => Ok(character - b'0'),
         b'A'..=b'F' => Ok(character - b'A' + 10),
+        b'a'..=b'f' => Ok(character - b'a' + 10),
         _ => Err(Refusal::Digit),
     }
 }
 
 /// Writes a frame; the caller has made sure that the output has room.
+/// Wish 2 leaves writing with capitals.
 fn encode(contents: &[u8], output: &mut [u8]) -> usize {
     const DIGITS: [u8; 16] = *b"0123456789ABCDEF";
     let sum = contents

@@ -3,26 +3,54 @@
 use std::collections::BTreeMap;
 use std::io::{self, Write};
 
-use crate::streams::COMMANDS;
+use crate::streams::{BESIDE_DIGITS, COMMANDS};
 use crate::{block, fixed};
 
-/// The calls whose numbers are counted: a letter each, a name, and the
-/// numbers that must come up.
-const CALLS: [(char, &str, &[u8]); 6] = [
+/// A call's letter, its name, and the numbers that must come up.
+type Call = (char, &'static str, &'static [u8]);
+
+/// The calls that are given a frame. Their numbers must come up for frames
+/// with a small letter as well.
+const OF_FRAMES: [Call; 3] = [
     ('D', "desk", &[0, 3, 4, 5, 6, 7, 8, 9, 10, 11]),
     ('S', "serve", &[0, 1, 2, 3, 4, 5, 6, 7, 8, 9, 10, 11]),
     ('T', "take apart", &[0, 2, 3, 4, 5, 6]),
+];
+
+const OTHERS: [Call; 3] = [
     ('B', "build", &[0, 2, 3]),
     ('F', "fresh", &[0, 1, 11]),
     ('H', "held parts", &[0, 1, 10]),
 ];
 
+/// The served frames that are counted by command: by call, and whether they
+/// have a small letter.
+const SERVED: [(char, bool, &str); 4] = [
+    ('D', false, "desk"),
+    ('S', false, "serve"),
+    ('D', true, "desk, small letter"),
+    ('S', true, "serve, small letter"),
+];
+
+/// Something that is counted; the first value is the call's letter.
+#[derive(Clone, Copy, PartialEq, Eq, PartialOrd, Ord)]
+enum Thing {
+    /// The number that a call gave.
+    Number(char, u8),
+    /// The number that a call gave for a frame with a small letter.
+    SmallLetter(char, u8),
+    /// Whether the frame had a small letter, its command, and whether that
+    /// was accepted.
+    Command(char, bool, u8, bool),
+    /// An accepted frame with both cases in one byte.
+    BothCases(char),
+    /// A frame refused 5 for this character alone.
+    NoDigit(char, u8),
+}
+
 /// How often each thing that the test must reach was reached.
 pub struct Coverage {
-    /// By call and number.
-    numbers: BTreeMap<(char, u8), usize>,
-    /// By call, command, and whether it was accepted.
-    commands: BTreeMap<(char, u8, bool), usize>,
+    things: BTreeMap<Thing, usize>,
     /// By fixed call with its line: the rules that it shows, a call each.
     fixed: BTreeMap<fixed::Seen, (Vec<String>, usize)>,
 }
@@ -30,8 +58,7 @@ pub struct Coverage {
 impl Coverage {
     pub fn new() -> Self {
         let mut coverage = Coverage {
-            numbers: BTreeMap::new(),
-            commands: BTreeMap::new(),
+            things: BTreeMap::new(),
             fixed: BTreeMap::new(),
         };
         for (seen, rule) in fixed::wanted() {
@@ -43,8 +70,11 @@ impl Coverage {
     /// Counts a call by its letter, what it was given, its number and the
     /// model's line for it.
     pub fn count(&mut self, call: char, input: &[u8], number: u8, line: &str) {
-        *self.numbers.entry((call, number)).or_default() += 1;
-        if call == 'D' || call == 'S' {
+        self.add(Thing::Number(call, number));
+        if matches!(call, 'D' | 'S' | 'T') {
+            self.count_letters(call, number, input);
+        }
+        if matches!(call, 'D' | 'S') {
             self.count_command(call, number, input);
         }
         let seen = (call, input.to_vec(), line.to_string());
@@ -53,38 +83,43 @@ impl Coverage {
         }
     }
 
+    fn count_letters(&mut self, call: char, number: u8, frame: &[u8]) {
+        if has_small_letter(frame) {
+            self.add(Thing::SmallLetter(call, number));
+        }
+        if number == 0 && has_both_cases(frame) {
+            self.add(Thing::BothCases(call));
+        }
+        if number == 5 {
+            if let Some(character) = only_wrong(frame) {
+                self.add(Thing::NoDigit(call, character));
+            }
+        }
+    }
+
     /// The command of a served piece counts if the frame itself is good.
     fn count_command(&mut self, call: char, number: u8, piece: &[u8]) {
         let mut contents = [0; 132];
         if block::take_apart(piece, &mut contents).is_ok() {
-            let key = (call, contents[1], number == 0);
-            *self.commands.entry(key).or_default() += 1;
+            let (small, accepted) = (has_small_letter(piece), number == 0);
+            self.add(Thing::Command(call, small, contents[1], accepted));
         }
     }
 
-    fn of_number(&self, call: char, number: u8) -> usize {
-        self.numbers.get(&(call, number)).copied().unwrap_or(0)
+    fn add(&mut self, thing: Thing) {
+        *self.things.entry(thing).or_default() += 1;
     }
 
-    fn of_command(&self, call: char, command: u8, accepted: bool) -> usize {
-        let key = (call, command, accepted);
-        self.commands.get(&key).copied().unwrap_or(0)
+    fn of(&self, thing: Thing) -> usize {
+        self.things.get(&thing).copied().unwrap_or(0)
     }
 
     /// What should have come up and never did.
     pub fn missing(&self) -> Vec<String> {
         let mut missing = Vec::new();
-        for (call, name, wanted) in CALLS {
-            for &number in wanted {
-                if self.of_number(call, number) == 0 {
-                    missing.push(format!("{name}: number {number}"));
-                }
-            }
-        }
-        for (call, name, command, accepted) in command_counts() {
-            if self.of_command(call, command, accepted) == 0 {
-                let word = if accepted { "accepted" } else { "refused" };
-                missing.push(format!("{name}: command {command} {word}"));
+        for (thing, name) in wanted() {
+            if self.of(thing) == 0 {
+                missing.push(name);
             }
         }
         for ((_, _, line), (rules, count)) in &self.fixed {
@@ -96,28 +131,9 @@ impl Coverage {
     }
 
     pub fn print(&self, out: &mut impl Write) -> io::Result<()> {
-        write!(out, "{:<12}", "number")?;
-        for number in 0..=11 {
-            write!(out, "{number:>8}")?;
-        }
-        for (call, name, _) in CALLS {
-            write!(out, "\n{name:<12}")?;
-            for number in 0..=11 {
-                write!(out, "{:>8}", self.of_number(call, number))?;
-            }
-        }
-        writeln!(
-            out,
-            "\n\ncommand   desk: accepted, refused   serve: accepted, refused"
-        )?;
-        for command in COMMANDS {
-            let [desk, serve] = ['D', 'S'].map(|call| {
-                let accepted = self.of_command(call, command, true);
-                let refused = self.of_command(call, command, false);
-                format!("{accepted:>8} {refused:>8}")
-            });
-            writeln!(out, "{command:>7}{desk:>25}{serve:>27}")?;
-        }
+        self.print_numbers(out)?;
+        self.print_commands(out)?;
+        self.print_letters(out)?;
         let fixed = self.fixed.values();
         let wanted: usize = fixed.clone().map(|(rules, _)| rules.len()).sum();
         let came: usize = fixed.map(|(rules, count)| rules.len().min(*count)).sum();
@@ -126,16 +142,133 @@ impl Coverage {
             "\nfixed calls that came out as written: {came} of {wanted}\n"
         )
     }
+
+    fn print_numbers(&self, out: &mut impl Write) -> io::Result<()> {
+        print_row(out, "number", 0..=11)?;
+        for (call, name, _) in OF_FRAMES.into_iter().chain(OTHERS) {
+            let counts = (0..=11).map(|number| self.of(Thing::Number(call, number)));
+            print_row(out, name, counts)?;
+        }
+        writeln!(out, "\nof these, frames with a small letter")?;
+        for (call, name, _) in OF_FRAMES {
+            let counts = (0..=11).map(|number| self.of(Thing::SmallLetter(call, number)));
+            print_row(out, name, counts)?;
+        }
+        Ok(())
+    }
+
+    fn print_commands(&self, out: &mut impl Write) -> io::Result<()> {
+        writeln!(out, "\naccepted and refused by command")?;
+        write!(out, "{:12}", "")?;
+        for (_, _, name) in SERVED {
+            write!(out, "{name:>20}")?;
+        }
+        writeln!(out)?;
+        for command in COMMANDS {
+            write!(out, "{command:<12}")?;
+            for (call, small, _) in SERVED {
+                let [accepted, refused] = [true, false]
+                    .map(|accepted| self.of(Thing::Command(call, small, command, accepted)));
+                write!(out, "{accepted:>11} {refused:>8}")?;
+            }
+            writeln!(out)?;
+        }
+        Ok(())
+    }
+
+    fn print_letters(&self, out: &mut impl Write) -> io::Result<()> {
+        writeln!(
+            out,
+            "\naccepted with both cases in one byte, and refused 5 for one character alone"
+        )?;
+        let [a, b, c, d, e, f] = BESIDE_DIGITS;
+        writeln!(
+            out,
+            "{:12}{:>8}{a:>8}{b:>8}{c:>8}{d:>8}{e:>8}{f:>8}",
+            "", "both"
+        )?;
+        for (call, name, _) in OF_FRAMES {
+            let both = self.of(Thing::BothCases(call));
+            let refused = BESIDE_DIGITS.map(|character| self.of(Thing::NoDigit(call, character)));
+            print_row(out, name, [both].into_iter().chain(refused))?;
+        }
+        Ok(())
+    }
 }
 
-/// Every count of a command that must not stay at 0.
-fn command_counts() -> impl Iterator<Item = (char, &'static str, u8, bool)> {
-    COMMANDS.into_iter().flat_map(|command| {
-        [
-            ('D', "desk", command, true),
-            ('D', "desk", command, false),
-            ('S', "serve", command, true),
-            ('S', "serve", command, false),
-        ]
+fn print_row(
+    out: &mut impl Write,
+    name: &str,
+    counts: impl Iterator<Item = usize>,
+) -> io::Result<()> {
+    write!(out, "{name:<12}")?;
+    for count in counts {
+        write!(out, "{count:>8}")?;
+    }
+    writeln!(out)
+}
+
+fn has_small_letter(frame: &[u8]) -> bool {
+    frame.iter().any(|c| matches!(c, b'a'..=b'f'))
+}
+
+/// Whether a byte of this frame, whose length is good, is sent in both cases.
+fn has_both_cases(frame: &[u8]) -> bool {
+    frame[1..].chunks_exact(2).any(|pair| {
+        let letters = pair.iter().all(|c| c.is_ascii_alphabetic());
+        letters && pair[0].is_ascii_lowercase() != pair[1].is_ascii_lowercase()
     })
+}
+
+/// The character in this frame, whose ends are good, that is no digit, if it
+/// has only one such or several alike.
+fn only_wrong(frame: &[u8]) -> Option<u8> {
+    let body = &frame[1..frame.len() - 2];
+    let mut wrong = body.iter().filter(|c| !c.is_ascii_hexdigit());
+    let first = wrong.next()?;
+    wrong.all(|c| c == first).then_some(*first)
+}
+
+/// All that must not stay at 0, with a name for each.
+fn wanted() -> Vec<(Thing, String)> {
+    let mut wanted = Vec::new();
+    for (call, name, numbers) in OF_FRAMES.into_iter().chain(OTHERS) {
+        for &number in numbers {
+            let name = format!("{name}: number {number}");
+            wanted.push((Thing::Number(call, number), name));
+        }
+    }
+    wanted.extend(wanted_of_commands());
+    wanted.extend(wanted_of_letters());
+    wanted
+}
+
+fn wanted_of_commands() -> Vec<(Thing, String)> {
+    let mut wanted = Vec::new();
+    for (call, small, name) in SERVED {
+        for command in COMMANDS {
+            for (accepted, word) in [(true, "accepted"), (false, "refused")] {
+                let name = format!("{name}: command {command} {word}");
+                wanted.push((Thing::Command(call, small, command, accepted), name));
+            }
+        }
+    }
+    wanted
+}
+
+fn wanted_of_letters() -> Vec<(Thing, String)> {
+    let mut wanted = Vec::new();
+    for (call, name, numbers) in OF_FRAMES {
+        for &number in numbers {
+            let name = format!("{name}, small letter: number {number}");
+            wanted.push((Thing::SmallLetter(call, number), name));
+        }
+        for character in BESIDE_DIGITS {
+            let name = format!("{name}: character {character} refused");
+            wanted.push((Thing::NoDigit(call, character), name));
+        }
+        let name = format!("{name}: both cases in one byte");
+        wanted.push((Thing::BothCases(call), name));
+    }
+    wanted
 }

@@ -5,12 +5,13 @@
 use crate::desk::INPUT_MAX;
 use crate::fixed;
 use crate::streams::{
-    ask, clock, constants, errors, frame, part, piece, session, Rng, CLOCK, COMMANDS, PARTS, TABLES,
+    ask, clock, constants, either_case, errors, frame, in_either_case, part, piece, session, Rng,
+    CLOCK, COMMANDS, PARTS, TABLES,
 };
 
 type Case = (&'static str, fn(&mut Rng) -> Vec<u8>);
 
-const CASES: [Case; 36] = [
+const CASES: [Case; 37] = [
     ("rows of the paper", paper_rows),
     ("empty", |_| Vec::new()),
     ("65,536 bytes", |rng| filled(rng, INPUT_MAX)),
@@ -59,6 +60,7 @@ const CASES: [Case; 36] = [
     }),
     ("frame lengths", frame_lengths),
     ("ends", ends),
+    ("letters in either case", letters),
 ];
 
 /// How many streams have a purpose of their own.
@@ -407,13 +409,15 @@ fn frame_lengths(rng: &mut Rng) -> Vec<u8> {
     let mut stream = Vec::new();
     for length in 3..=280 {
         stream.push(b':');
-        stream.extend((3..length).map(|_| rng.pick(b"0123456789ABCDEF")));
+        stream.extend((3..length).map(|_| rng.pick(b"0123456789ABCDEFabcdef")));
         stream.extend(b"\r\n");
     }
     for count in (0..=4).chain(129..=136) {
         let contents = [vec![1, 50], rng.bytes(132)].concat();
         let contents = contents.iter().cycle().take(count).copied();
-        stream.extend(frame(&contents.collect::<Vec<u8>>()));
+        let frame = frame(&contents.collect::<Vec<u8>>());
+        stream.extend(&frame);
+        stream.extend(either_case(rng, frame));
     }
     stream
 }
@@ -441,6 +445,15 @@ fn ends(_: &mut Rng) -> Vec<u8> {
         ":0132CD\r\n:0132CD",
     ] {
         stream.extend(text.as_bytes());
+    }
+    stream
+}
+
+/// Wish 2 for each of the commands; the longest draw stays below 65,536 bytes.
+fn letters(rng: &mut Rng) -> Vec<u8> {
+    let mut stream = Vec::new();
+    for command in COMMANDS.repeat(20) {
+        stream.extend(in_either_case(rng, 1, command).concat());
     }
     stream
 }

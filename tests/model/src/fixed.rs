@@ -3,6 +3,8 @@
 //! them, the model is held to them, and a run in which one of them did not
 //! come out as written has failed.
 
+mod small_letters;
+
 use crate::block::IMAGE_BYTES;
 use crate::probe::{digest, IMAGE_ROOM, OUTPUT_ROOM};
 use crate::streams::{ask, COMMANDS};
@@ -61,9 +63,10 @@ impl Step {
     }
 }
 
-/// Steps taken in turn on one image, fresh at address 1 before the first.
+/// Steps taken in turn on one image, fresh before the first.
 pub struct Session {
     pub name: &'static str,
+    pub address: u8,
     pub image_length: usize,
     /// A byte changed before the first step, and what it is changed to.
     pub spoiled: Option<(usize, u8)>,
@@ -75,11 +78,17 @@ impl Session {
     fn new(name: &'static str, steps: Vec<Step>) -> Self {
         Session {
             name,
+            address: 1,
             image_length: IMAGE_BYTES,
             spoiled: None,
             output: SERVE_ROOM,
             steps,
         }
+    }
+
+    fn address(mut self, address: u8) -> Self {
+        self.address = address;
+        self
     }
 
     fn image_length(mut self, length: usize) -> Self {
@@ -100,6 +109,7 @@ impl Session {
     /// Its frames, if the desk program can run all of its steps.
     pub fn stream(&self) -> Option<Vec<u8>> {
         let runs = self.spoiled.is_none()
+            && self.address == 1
             && self.image_length == IMAGE_BYTES
             && self.output == SERVE_ROOM
             && self.steps.iter().all(|step| step.letter == 'S');
@@ -125,7 +135,8 @@ impl Session {
     /// The probe's line for each step, from what is written here alone.
     pub fn probe_lines(&self) -> Vec<String> {
         let mut image = [0; IMAGE_ROOM];
-        image[..6].copy_from_slice(b"IZK\x00\x01\x01");
+        image[..5].copy_from_slice(b"IZK\x00\x01");
+        image[5] = self.address;
         if let Some((offset, value)) = self.spoiled {
             image[offset] = value;
         }
@@ -181,7 +192,7 @@ pub fn streams() -> Vec<(&'static str, Vec<u8>)> {
 }
 
 pub fn sessions() -> Vec<Session> {
-    vec![
+    let mut sessions = vec![
         Session::new("one wrong end, served", one_wrong_end(serve)),
         Session::new("one wrong end, taken apart", one_wrong_end(take_apart)),
         Session::new("two faults at once, served", two_faults()),
@@ -204,7 +215,9 @@ pub fn sessions() -> Vec<Session> {
         Session::new("error rows", error_rows()),
         Session::new("another body length", another_length()),
         Session::new("commands beside those served", not_served()),
-    ]
+    ];
+    sessions.extend(small_letters::sessions());
+    sessions
 }
 
 fn serve(rule: &'static str, frame: &[u8]) -> Step {
@@ -242,8 +255,8 @@ fn frame_faults(call: OfFrame) -> Vec<Step> {
     vec![
         call("3 before 4", b";0132C\r\n").refused(3),
         call("4 before 5", b";01g2CD\r\n").refused(4),
-        // With C for c its checksum would be wrong.
-        call("5 before 6", b":0132cE\r\n").refused(5),
+        // No digit in place of g would make the checksum CD.
+        call("5 before 6", b":0132gE\r\n").refused(5),
     ]
 }
 

@@ -3,7 +3,10 @@
 
 use crate::fixed::{self, Session, FILL};
 use crate::probe::SCRIPT_MAX;
-use crate::streams::{ask, clock, constants, errors, frame, part, piece, session, Rng, COMMANDS};
+use crate::streams::{
+    ask, clock, constants, either_case, errors, frame, in_either_case, part, piece, session, Rng,
+    COMMANDS,
+};
 
 const IMAGE_BYTES: usize = 23_753;
 const WORDS: usize = 17;
@@ -13,7 +16,7 @@ const TABLES: usize = 1225;
 
 type Case = (&'static str, fn(&mut Rng) -> Script);
 
-const CASES: [Case; 20] = [
+const CASES: [Case; 21] = [
     ("empty", |_| Script::default()),
     ("rows at other addresses", other_addresses),
     ("fresh images", fresh_images),
@@ -31,6 +34,7 @@ const CASES: [Case; 20] = [
     ("table numbers", table_numbers),
     ("parts with gaps", parts_with_gaps),
     ("one write to each kind of cell", each_cell),
+    ("letters in either case", letters),
     ("65,536 bytes in one record", |_| filled(SCRIPT_MAX)),
     ("a record past 65,536 bytes", |_| filled(SCRIPT_MAX + 1)),
     ("records after 65,536 bytes", records_past_end),
@@ -129,7 +133,9 @@ pub fn script(seed: u64, number: usize) -> (String, Vec<u8>) {
 /// A session of fixed calls, each with an output of its own.
 pub fn fixed_calls(session: &Session) -> Vec<u8> {
     let mut script = Script::default();
-    script.fresh(1).image_length(session.image_length);
+    script
+        .fresh(session.address)
+        .image_length(session.image_length);
     if let Some((offset, value)) = session.spoiled {
         script.poke(offset, value);
     }
@@ -308,6 +314,7 @@ fn take_apart_outputs(rng: &mut Rng) -> Script {
             script.output(length, rng.byte());
             script.take_apart(&frame(&rng.bytes(count)));
             script.take_apart(b":0132CE\r\n").take_apart(b":0132cD\r\n");
+            script.take_apart(b":0132gD\r\n");
             script.take_apart(b";0132CD\r\n").take_apart(b"");
         }
     }
@@ -339,10 +346,12 @@ fn take_apart_lengths(rng: &mut Rng) -> Script {
     let mut script = Script::default();
     script.output(400, 0x33);
     for count in 0..=140 {
-        script.take_apart(&frame(&rng.bytes(count)));
+        let frame = frame(&rng.bytes(count));
+        script.take_apart(&frame);
+        script.take_apart(&either_case(rng, frame));
     }
     for length in 0..=24 {
-        let digits = (0..length).map(|_| rng.pick(b"0123456789ABCDEFa@:"));
+        let digits = (0..length).map(|_| rng.pick(b"0123456789ABCDEFabcdefg@:"));
         let text = [b":".to_vec(), digits.collect(), b"\r\n".to_vec()].concat();
         script.take_apart(&text);
         script.take_apart(&text[1..]).take_apart(&text[..length]);
@@ -368,7 +377,7 @@ fn fault_ladder(rng: &mut Rng) -> Script {
     let last = frame.len() - 3; // low half of the checksum
     frame[last] = if frame[last] == b'0' { b'1' } else { b'0' };
     script.serve(&frame).take_apart(&frame);
-    frame[1] = b'a';
+    frame[1] = b'g';
     script.serve(&frame).take_apart(&frame);
     frame[0] = b'0';
     script.serve(&frame).take_apart(&frame);
@@ -466,6 +475,23 @@ fn each_cell(rng: &mut Rng) -> Script {
         script.serve(&ask(1, 59, &part(rng, table, 11)));
     }
     look_everywhere(&mut script);
+    script.show_all();
+    script
+}
+
+/// Wish 2 for each of the commands, at addresses with letters too; the longest
+/// draw stays below 65,536 bytes.
+fn letters(rng: &mut Rng) -> Script {
+    let mut script = Script::default();
+    for address in [1, 0xCE, 0x1F, 0xAB].repeat(2) {
+        script.fresh(address);
+        for command in COMMANDS {
+            for frame in in_either_case(rng, address, command) {
+                script.output(269, rng.byte());
+                script.serve(&frame).take_apart(&frame);
+            }
+        }
+    }
     script.show_all();
     script
 }

@@ -1,7 +1,9 @@
 //! The rows and rules the block is held to, one by one.
 
 use crate::block::{build, fresh, held_parts, serve, take_apart, Refusal, IMAGE_BYTES};
-use crate::streams::{ask, constants, errors, frame, part, Rng, FIELDS};
+use crate::streams::{
+    ask, constants, either_case, errors, frame, part, piece, session, Rng, FIELDS,
+};
 use crate::{desk, desk_streams, fixed, probe, probe_scripts};
 
 fn image_at(address: u8) -> Vec<u8> {
@@ -55,7 +57,7 @@ fn rows_on_a_fresh_image() {
         (":0132CD", done(":013200CD")),
         (":01330FBD", done(":01330FBD")),
         (":0132CE", refused(6)),
-        (":0132cD", refused(5)),
+        (":0132cD", done(":013200CD")), // P4 as wish 2 amends it
         (":0232CC", refused(7)),
         (":0153AC", refused(8)),
         (":013608C1", refused(10)),
@@ -146,6 +148,65 @@ fn building_and_taking_apart_undo_each_other() {
 }
 
 #[test]
+fn taking_apart_and_building_gives_capitals() {
+    let mut rng = Rng::new(1, 10);
+    for count in (2..=132).cycle().take(2_000) {
+        let capitals = frame(&rng.bytes(count));
+        let (mut contents, mut built) = ([0; 132], [0; 269]);
+        let text = either_case(&mut rng, capitals.clone());
+        assert_eq!(take_apart(&text, &mut contents), Ok(count));
+        assert_eq!(build(&contents[..count], &mut built), Ok(2 * count + 5));
+        assert_eq!(built[..2 * count + 5], capitals);
+    }
+}
+
+#[test]
+fn capital_form_is_served_alike() {
+    let mut rng = Rng::new(1, 11);
+    for address in [1, 0xCE, 0xAF] {
+        let (mut image, mut other) = (image_at(address), image_at(address));
+        for _ in 0..500 {
+            for contents in session(&mut rng, address) {
+                let text = piece(&mut rng, &contents);
+                let text = either_case(&mut rng, text);
+                let outcome = put(&mut image, &text);
+                assert_eq!(put(&mut other, &text.to_ascii_uppercase()), outcome);
+                assert!(image == other);
+            }
+        }
+    }
+}
+
+#[test]
+fn digits_are_of_three_ranges() {
+    for character in 0..=255 {
+        let digit = matches!(character, 48..=57 | 65..=70 | 97..=102);
+        for place in 1..=8 {
+            let mut text = *b":01330FBD\r\n";
+            text[place] = character;
+            let apart = take_apart(&text, &mut [0; 132]);
+            assert_eq!(apart == Err(Refusal::Digit), !digit);
+            assert_eq!(put(&mut image_at(1), &text).0 == 5, !digit);
+        }
+    }
+}
+
+#[test]
+fn small_letters_stand_for_ten_to_fifteen() {
+    for (value, letter) in (10..=15).zip("abcdef".chars()) {
+        for (text, byte) in [
+            (format!("{letter}0"), 16 * value),
+            (format!("0{letter}"), value),
+        ] {
+            let text = format!(":00{text}{:02X}\r\n", 256 - u16::from(byte));
+            let mut contents = [9; 132];
+            assert_eq!(take_apart(text.as_bytes(), &mut contents), Ok(2));
+            assert_eq!(contents[..2], [0, byte]);
+        }
+    }
+}
+
+#[test]
 fn halves_are_sent_as_published() {
     let mut output = [0; 9];
     assert_eq!(build(&[0x4C, 0], &mut output), Ok(9));
@@ -173,7 +234,10 @@ fn taking_apart_refuses_in_order() {
         (";0132zz\rA", Err(Refusal::Ends)),
         (":0132zz\r\n", Err(Refusal::Digit)),
         (":0132@E\r\n", Err(Refusal::Digit)),
+        (":0132gE\r\n", Err(Refusal::Digit)),
         (":0132CE\r\n", Err(Refusal::Checksum)),
+        (":0132cE\r\n", Err(Refusal::Checksum)),
+        (":0132cD\r\n", Ok(2)),
         (":FF9968\r\n", Ok(2)),
     ] {
         assert_eq!(take_apart(text.as_bytes(), &mut [0; 132]), outcome);

@@ -15,6 +15,9 @@ pub const TABLES: [u8; 10] = [0, 1, 2, 8, 9, 10, 11, 12, 18, 19];
 /// Part numbers at and around the limits.
 pub const PARTS: [u8; 4] = [0, 1, 11, 12];
 
+/// The characters on either side of the three ranges of digits.
+pub const BESIDE_DIGITS: [u8; 6] = [47, 58, 64, 71, 96, 103];
+
 /// Body bytes of the constants that carry a field, each span with both ends.
 pub const FIELDS: [(usize, usize); 9] = [
     (4, 16),
@@ -103,6 +106,16 @@ pub fn ask(address: u8, command: u8, data: &[u8]) -> Vec<u8> {
 
 fn contents(address: u8, command: u8, data: &[u8]) -> Vec<u8> {
     [&[address, command], data].concat()
+}
+
+/// The same text with each letter A to F small or capital by chance.
+pub fn either_case(rng: &mut Rng, mut text: Vec<u8>) -> Vec<u8> {
+    for character in &mut text {
+        if matches!(character, b'A'..=b'F') && rng.percent(50) {
+            character.make_ascii_lowercase();
+        }
+    }
+    text
 }
 
 /// Data of a good command 53.
@@ -273,9 +286,31 @@ fn around_errors(rng: &mut Rng) -> Vec<Request> {
     ]
 }
 
-/// The frame of these contents, about one in seven with a fault of its own.
+/// Frames of a command with letters in either case: a request, the same to
+/// another address, with another length, and with a character that is next
+/// to the digits.
+pub fn in_either_case(rng: &mut Rng, address: u8, command: u8) -> [Vec<u8>; 4] {
+    let data = data(rng, command);
+    let mut other_length = data.clone();
+    if other_length.pop().is_none() {
+        other_length.push(rng.byte());
+    }
+    let mut no_digit = ask(address, command, &data);
+    let place = inside(rng, &no_digit);
+    no_digit[place] = rng.pick(&BESIDE_DIGITS);
+    [
+        ask(address, command, &data),
+        ask(!address, command, &data),
+        ask(address, command, &other_length),
+        no_digit,
+    ]
+    .map(|frame| either_case(rng, frame))
+}
+
+/// The frame of these contents, about one in seven with a fault of its own,
+/// and one in two with letters in either case.
 pub fn piece(rng: &mut Rng, contents: &[u8]) -> Vec<u8> {
-    match rng.below(35) {
+    let frame = match rng.below(35) {
         0 => {
             let mut other = contents.to_vec();
             other[0] = rng.byte();
@@ -283,20 +318,29 @@ pub fn piece(rng: &mut Rng, contents: &[u8]) -> Vec<u8> {
         }
         1..=4 => damage(rng, frame(contents)),
         _ => frame(contents),
+    };
+    match rng.below(2) {
+        0 => either_case(rng, frame),
+        _ => frame,
     }
+}
+
+/// A place between the ends of a frame.
+fn inside(rng: &mut Rng, frame: &[u8]) -> usize {
+    1 + rng.below(frame.len() - 3)
 }
 
 /// One fault done to a good frame.
 fn damage(rng: &mut Rng, mut frame: Vec<u8>) -> Vec<u8> {
     let length = frame.len();
-    let inside = 1 + rng.below(length - 3);
+    let inside = inside(rng, &frame);
     match rng.below(12) {
         0 => frame[inside] = rng.byte(),
         1 => frame[inside] = rng.between(58, 64),
-        2 => frame[inside] = rng.pick(b"abcdef"),
-        3 => frame.make_ascii_lowercase(),
-        4 => frame[inside] = rng.pick(b"0123456789ABCDEF"),
-        5 => frame[length - 3] = rng.pick(b"0123456789ABCDEF"),
+        2 => frame[inside] = rng.between(71, 96),
+        3 => frame[inside] = rng.pick(&BESIDE_DIGITS),
+        4 => frame[inside] = rng.pick(b"0123456789ABCDEFabcdef"),
+        5 => frame[length - 3] = rng.pick(b"0123456789ABCDEFabcdef"),
         6 => drop(frame.remove(inside)),
         7 => frame.insert(inside, b'0'),
         8 => drop(frame.drain(inside..length - 2)),
