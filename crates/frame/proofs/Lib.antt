@@ -1,3 +1,4 @@
+pub mod Characters
 pub mod Chars
 pub mod FrameLaid
 pub mod Body

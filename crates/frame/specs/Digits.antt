@@ -1,7 +1,7 @@
 -- Characters and bytes, and the checksum (document 01, "The frame"). Assumes nothing.
-use mathlib.Core.List.{List, [], _∷_}
+use mathlib.Core.List.{List, [], _∷_, _++_}
 use mathlib.Core.Bool.{Bool, cond, _||_}
-use Prim.Native.Nat.{ℕ, _+_, _-_, _*_, _/_, _%_}
+use Prim.Native.Nat.{ℕ, zero, suc, _+_, _-_, _*_, _/_, _%_}
 use lib.Dec.{ltb}
 use Rattle.laws.specs.Bytes.{sumOf}
 use Rattle.laws.specs.Checks.{within, all}
@@ -13,6 +13,11 @@ isSmall c = within 97 102 c
 -- a digit is one of 48..57, 65..70 and 97..102. 001's own decoding rule has no such test and would read 58..64 as something
 unfoldable pub isDigit : ℕ → Bool
 isDigit c = within 48 57 c || (within 65 70 c || isSmall c)
+
+-- those below a number, in their order
+unfoldable pub digitsBelow : ℕ → List ℕ
+digitsBelow zero = []
+digitsBelow (suc n) = digitsBelow n ++ cond (isDigit n) (n ∷ []) []
 
 abbrev pub allDigits : List ℕ → Bool
 allDigits cs = all isDigit cs
