@@ -78,7 +78,7 @@ planted 'small letters refused' '^  at       piece :0132cD' desk - "sed '4s/^0 .
 planted 'a bad end' 'ended with exit status: 3$' desk 3 cat
 planted 'a wrong digest' '^  got      S [0-9 ]+<0A>' probe - "sed '5{s/9\$/8/;t;s/[0-8]\$/9/}'"
 planted 'a wrong number' '^  got      H 0 0 0<0A>' probe - "sed 's/^H 10 /H 0 /'"
-# Line 213 is P4 in the first output with room for what it holds.
+# Line 213 is P4 in the first output that is long enough, of 132 bytes.
 planted 'small letters not taken apart' '^  at       record T :0132cD' probe - "sed '213s/^T 0 2 /T 5 0 /'"
 planted 'a bad end of the probe' 'ended with exit status: 3$' probe 3 cat
 echo "self: $passed passed, $failed failed"

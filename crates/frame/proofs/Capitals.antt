@@ -9,18 +9,15 @@ use lib.Dec.{eqb}
 use borrow.Author.Tests.{not-true, le-leb, ne-eqb}
 use Rattle.laws.specs.Checks.{within, all}
 use Rattle.laws.proofs.Bytes.{slice-map}
-use Rattle.laws.proofs.Tests.{and-both, within-is, within-in, within-below}
+use Rattle.laws.proofs.Tests.{never, and-both, within-is, within-in}
 use Rattle.frame.specs.Digits.{isSmall, isDigit, allDigits, valueOf, bytesOf}
 use Rattle.frame.specs.Capitals.{capitalOf, capitalForm, noSmall}
 use Rattle.frame.specs.Apart.{endsOk, inner, bodyOf, contentsOf, sumOk, frameChecks, apart}
-use Rattle.frame.proofs.Chars.{digit-capital, digit-small, value-capital, value-small}
+use Rattle.frame.proofs.Chars.{small-below, digit-capital, digit-small, value-capital, value-small}
 
 -- ---- a character
 
 module _ (c : ℕ) where
-  pub small-below : c < 97 → isSmall c ≡ false
-  small-below h = within-below 97 102 c h
-
   pub capital-small : 97 ≤ c → c ≤ 102 → capitalOf c ≡ c - 32
   unfolding capitalOf
   capital-small h g = rw (within-in 97 102 c h g)
@@ -47,13 +44,17 @@ module _ (c : ℕ) where
       of-capital (λ k. valueOf k ≡ valueOf c) (λ s. refl)
       (λ l h. let d : c - 32 - 55 ≡ c - 87 = omega arith in value-capital (c - 32) (omega arith) (omega arith) ∙ d ∙ sym (value-small c l))
 
+  -- one that is no digit stays
+  pub capital-stays : isDigit c ≡ false → capitalOf c ≡ c
+  capital-stays n = of-capital (λ k. k ≡ c) (λ s. refl) (λ l h. absurd (never (sym n ∙ (digit-small c l ∙ le-leb c 102 h))))
+
   -- the ends of a frame are no letters
   capital-end : (e : ℕ) → e < 65 → eqb (capitalOf c) e ≡ eqb c e
   capital-end e low =
       of-capital (λ k. eqb k e ≡ eqb c e) (λ s. refl) (λ l h. ne-eqb (c - 32) e (λ z. omega arith) ∙ sym (ne-eqb c e (λ z. omega arith)))
 
   capital-none : isSmall (capitalOf c) ≡ false
-  capital-none = of-capital (λ k. isSmall k ≡ false) (λ s. s) (λ l h. within-below 97 102 (c - 32) (omega arith))
+  capital-none = of-capital (λ k. isSmall k ≡ false) (λ s. s) (λ l h. small-below (c - 32) (omega arith))
 
 -- ---- a list of characters
 
@@ -93,9 +94,13 @@ module _ (f : List ℕ) where
   pub capital-long : length (capitalForm f) ≡ length f
   capital-long = length-map f capitalOf
 
-  capital-at : (e i : ℕ) → e < 65 → eqb (getD (capitalForm f) i 0) e ≡ eqb (getD f i 0) e
+  -- each character by itself
+  pub capital-each : (i : ℕ) → getD (capitalForm f) i 0 ≡ capitalOf (getD f i 0)
   unfolding capitalOf within
-  capital-at e i low = ap (λ (c : ℕ). eqb c e) (List·getD-map capitalOf f i 0) ∙ capital-end (getD f i 0) e low
+  capital-each i = List·getD-map capitalOf f i 0
+
+  capital-at : (e i : ℕ) → e < 65 → eqb (getD (capitalForm f) i 0) e ≡ eqb (getD f i 0) e
+  capital-at e i low = ap (λ (c : ℕ). eqb c e) (capital-each i) ∙ capital-end (getD f i 0) e low
 
   capital-ends : endsOk (capitalForm f) ≡ endsOk f
   unfolding endsOk

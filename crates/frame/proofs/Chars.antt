@@ -23,26 +23,29 @@ pub data Digit (c : ℕ) : Type 0 where
   small : 97 ≤ c → c ≤ 102 → Digit c
 
 module _ (c : ℕ) where
+  pub small-below : c < 97 → isSmall c ≡ false
+  small-below h = within-below 97 102 c h
+
   outside : within 48 57 c ≡ false → within 65 70 c ≡ false → isSmall c ≡ false → isDigit c ≡ false
   unfolding isDigit
   outside d k s = rw (d, k, s)
 
   pub digit-below : c < 48 → isDigit c ≡ false
-  digit-below h = outside (within-below 48 57 c h) (within-below 65 70 c (omega arith)) (within-below 97 102 c (omega arith))
+  digit-below h = outside (within-below 48 57 c h) (within-below 65 70 c (omega arith)) (small-below (omega arith))
 
   pub digit-decimal : 48 ≤ c → c ≤ 57 → isDigit c ≡ true
   unfolding isDigit
   digit-decimal h g = rw (within-in 48 57 c h g)
 
   pub digit-between : 57 < c → c < 65 → isDigit c ≡ false
-  digit-between h g = outside (within-above 48 57 c h) (within-below 65 70 c g) (within-below 97 102 c (omega arith))
+  digit-between h g = outside (within-above 48 57 c h) (within-below 65 70 c g) (small-below (omega arith))
 
   pub digit-capital : 65 ≤ c → c ≤ 70 → isDigit c ≡ true
   unfolding isDigit
   digit-capital h g = rw (within-above 48 57 c (omega arith), within-in 65 70 c h g)
 
   pub digit-past : 70 < c → c < 97 → isDigit c ≡ false
-  digit-past h g = outside (within-above 48 57 c (omega arith)) (within-above 65 70 c h) (within-below 97 102 c g)
+  digit-past h g = outside (within-above 48 57 c (omega arith)) (within-above 65 70 c h) (small-below g)
 
   pub digit-small : 97 ≤ c → isDigit c ≡ leb c 102
   unfolding isDigit within

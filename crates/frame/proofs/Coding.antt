@@ -11,9 +11,9 @@ use Rattle.laws.proofs.Bytes.{Bytes, bytes-none, bytes-cons}
 use Rattle.laws.proofs.Tests.{and-both}
 use Rattle.frame.specs.Digits.{isSmall, isDigit, allDigits, valueOf, charOf, charsOf, bytesOf}
 use Rattle.frame.specs.Capitals.{capitalOf, capitalForm, noSmall}
-use Rattle.frame.proofs.Chars.{Digit, decimal, capital, small, digit-decimal, digit-capital, digit-is}
+use Rattle.frame.proofs.Chars.{Digit, decimal, capital, small, small-below, digit-decimal, digit-capital, digit-is}
 use Rattle.frame.proofs.Chars.{value-decimal, value-capital, value-small, value-half, char-low, char-high}
-use Rattle.frame.proofs.Capitals.{small-below, capital-small, capital-other}
+use Rattle.frame.proofs.Capitals.{capital-small, capital-other}
 
 -- ---- a half's character is a digit, stands for the half and is no small letter; the character of a digit's value is the digit's capital
 

@@ -1,4 +1,4 @@
-pub mod Characters
+pub mod Ranges
 pub mod Chars
 pub mod FrameLaid
 pub mod Body

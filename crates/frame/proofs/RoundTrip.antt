@@ -76,7 +76,7 @@ module _ (c : List ℕ) where
         let e : length (body c) - 1 ≡ length c = omega (arith, length-whole c) in
         rw (body-frame, contents-frame, e) (eq-eqb _ _ (getD-at c (checksumOf c) [] 0 (length c) refl))
 
-    -- what is written has no small letter
+    -- what is built has no small letter
     pub frame-in-capitals : noSmall (frameOf c) ≡ true
     unfolding frameOf body all within
     frame-in-capitals = all-then _ (charsOf (body c)) (13 ∷ (10 ∷ [])) (capitals-chars (body c) whole) refl
@@ -133,9 +133,9 @@ module _ (f : List ℕ) (p : AllPass (frameChecks f)) where
       let k : getD (bodyOf f) (length (bodyOf f) - 1) 0 ≡ checksumOf (contentsOf f) = eqb-true _ _ (passed-sum f p) in
       rw (← k) (last-split (bodyOf f) (length (bodyOf f) - 1) m)
 
-  frame-capitals : frameOf (contentsOf f) ≡ capitalForm f
+  back-in-capitals : frameOf (contentsOf f) ≡ capitalForm f
   unfolding frameOf bodyOf
-  frame-capitals =
+  back-in-capitals =
       let l = passed-length f p in
       rw (body-is, chars-bytes (inner f) (passed-digits f p) (omega (arith, length-inner f (l .0)))) capitals-are
 
@@ -144,7 +144,7 @@ module _ (f out : List ℕ) (z : apart f out .number ≡ 0) where
   apart-then-capitals =
       let p = taken-0 f out z .1 in
       let n = contents-length f p in
-      (frame-capitals f p, n .0, n .1)
+      (back-in-capitals f p, n .0, n .1)
 
   -- so, with room for it, building what was taken apart writes the capital form
   pub apart-then-capitals-written : (left : List ℕ) → length f ≤ length left → built (contentsOf f) left ≡ written left (capitalForm f)

@@ -23,13 +23,13 @@ const OTHERS: [Call; 3] = [
     ('H', "held parts", &[0, 1, 10]),
 ];
 
-/// The served frames that are counted by command: by call, and whether they
-/// have a small letter.
+/// The served frames that are counted by command: by call, and whether a
+/// letter of theirs is small.
 const SERVED: [(char, bool, &str); 4] = [
-    ('D', false, "desk"),
-    ('S', false, "serve"),
-    ('D', true, "desk, small letter"),
-    ('S', true, "serve, small letter"),
+    ('D', false, "desk, none small"),
+    ('S', false, "serve, none small"),
+    ('D', true, "desk, a small one"),
+    ('S', true, "serve, a small one"),
 ];
 
 /// Something that is counted; the first value is the call's letter.
@@ -158,7 +158,10 @@ impl Coverage {
     }
 
     fn print_commands(&self, out: &mut impl Write) -> io::Result<()> {
-        writeln!(out, "\naccepted and refused by command")?;
+        writeln!(
+            out,
+            "\naccepted and refused by command, and by whether a letter is small"
+        )?;
         write!(out, "{:12}", "")?;
         for (_, _, name) in SERVED {
             write!(out, "{name:>20}")?;

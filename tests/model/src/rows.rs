@@ -160,6 +160,15 @@ fn taking_apart_and_building_gives_capitals() {
     }
 }
 
+/// A small letter a to f becomes its capital, all else stays.
+fn capital_form(text: &[u8]) -> Vec<u8> {
+    let capital = |&c: &u8| match c {
+        b'a'..=b'f' => c - b'a' + b'A',
+        _ => c,
+    };
+    text.iter().map(capital).collect()
+}
+
 #[test]
 fn capital_form_is_served_alike() {
     let mut rng = Rng::new(1, 11);
@@ -170,7 +179,7 @@ fn capital_form_is_served_alike() {
                 let text = piece(&mut rng, &contents);
                 let text = either_case(&mut rng, text);
                 let outcome = put(&mut image, &text);
-                assert_eq!(put(&mut other, &text.to_ascii_uppercase()), outcome);
+                assert_eq!(put(&mut other, &capital_form(&text)), outcome);
                 assert!(image == other);
             }
         }

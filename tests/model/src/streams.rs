@@ -319,9 +319,9 @@ pub fn piece(rng: &mut Rng, contents: &[u8]) -> Vec<u8> {
         1..=4 => damage(rng, frame(contents)),
         _ => frame(contents),
     };
-    match rng.below(2) {
-        0 => either_case(rng, frame),
-        _ => frame,
+    match rng.percent(50) {
+        true => either_case(rng, frame),
+        false => frame,
     }
 }
 

@@ -251,14 +251,16 @@ const LIMITS: [(usize, &str, [u8; 3], u8); 32] = [
     (8, ":01330DBF", [0x01, 0x33, 0x0D], 0),
 ];
 
-/// Each frame as it stands, and with the letter at its place small. What is
-/// served is command 51, which echoes.
+/// Each frame as it stands, and where a letter is at its place, with that one
+/// small. What is served is command 51, which echoes.
 fn limits() -> Vec<Row> {
     let mut rows = Vec::new();
     for (place, capitals, contents, number) in LIMITS {
         let mut small = capitals.to_string();
         small[place..=place].make_ascii_lowercase();
-        for text in [capitals, small.as_str()] {
+        let mut texts = vec![capitals, small.as_str()];
+        texts.dedup();
+        for text in texts {
             let step = line("first or last of a range", text);
             let step = match number {
                 0 => step.replies(capitals).stores(MASK, &contents[2..]),
@@ -276,9 +278,8 @@ fn with(frame: &[u8], place: usize, character: u8) -> Vec<u8> {
     frame
 }
 
-/// Every place of two bodies with characters that are digits and with some
-/// that are none, and these also at the ends and in the middle of the longest
-/// body.
+/// Every place of a body with characters that are digits, and of two with some
+/// that are none; these also at the ends and in the middle of the longest body.
 fn one_character(call: OfFrame) -> Vec<Step> {
     let mut steps = Vec::new();
     for place in 1..=8 {

@@ -1,4 +1,4 @@
--- The digits by their characters, computed: all other laws tie the definitions to each other, and this one ties them to what stands on the line.
+-- The digits by their characters, computed: the other laws of digits tie definitions to each other, and this one ties them to what is on the line.
 -- Assumes nothing.
 use mathlib.Core.Path.{_≡_, refl}
 use mathlib.Core.List.{[], _∷_}
