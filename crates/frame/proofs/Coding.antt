@@ -1,7 +1,7 @@
 -- Characters and bytes undo each other, but for the case of the letters. Assumes nothing.
-use mathlib.Core.Path.{_≡_, refl, _∙_}
+use mathlib.Core.Path.{_≡_, refl, ap, _∙_}
 use mathlib.Core.List.{List, [], _∷_}
-use mathlib.Core.Bool.{true, false, _&&_}
+use mathlib.Core.Bool.{Bool, true, false, not, _&&_}
 use Prim.Native.Nat.{ℕ, zero, suc, _+_, _-_, _*_, _/_, _%_, _<_}
 use native.Mathlib.Decide.{decLt}
 use native.Mathlib.Omega.{arith}
@@ -47,12 +47,20 @@ digit c d = go (digit-is c d)
 
 -- ---- and so for lists
 
-pub digits-chars : (l : List ℕ) → Bytes l → allDigits (charsOf l) ≡ true
+-- what every half's character passes, all characters of bytes pass
+chars-pass : (t : ℕ → Bool) → ((h : ℕ) → h < 16 → t (charOf h) ≡ true) → (l : List ℕ) → Bytes l → all t (charsOf l) ≡ true
 unfolding all charsOf
-digits-chars [] h = refl
-digits-chars (b ∷ l) h =
+chars-pass t each [] h = refl
+chars-pass t each (b ∷ l) h =
     let s = h zero in
-    rw (half (b / 16) (omega arith) .0, half (b % 16) (omega arith) .0, digits-chars l (λ k. h (suc k)))
+    rw (each (b / 16) (omega arith), each (b % 16) (omega arith), chars-pass t each l (λ k. h (suc k)))
+
+pub digits-chars : (l : List ℕ) → Bytes l → allDigits (charsOf l) ≡ true
+digits-chars = chars-pass isDigit (λ h low. half h low .0)
+
+-- what is written has no small letter
+pub capitals-chars : (l : List ℕ) → Bytes l → noSmall (charsOf l) ≡ true
+capitals-chars = chars-pass (λ c. not (isSmall c)) (λ h low. ap not (half h low .2))
 
 pub bytes-chars : (l : List ℕ) → Bytes l → bytesOf (charsOf l) ≡ l
 unfolding bytesOf charsOf
@@ -61,14 +69,6 @@ bytes-chars (b ∷ l) h =
     let s = h zero in
     let e : 16 * (b / 16) + b % 16 ≡ b = omega arith in
     rw (half (b / 16) (omega arith) .1, half (b % 16) (omega arith) .1, e, bytes-chars l (λ k. h (suc k)))
-
--- what is written has no small letter
-pub capitals-chars : (l : List ℕ) → Bytes l → noSmall (charsOf l) ≡ true
-unfolding all charsOf
-capitals-chars [] h = refl
-capitals-chars (b ∷ l) h =
-    let s = h zero in
-    rw (half (b / 16) (omega arith) .2, half (b % 16) (omega arith) .2, capitals-chars l (λ k. h (suc k)))
 
 -- two digits are a byte
 pub bytes-low : (s : List ℕ) → allDigits s ≡ true → Bytes (bytesOf s)

@@ -205,12 +205,7 @@ bytes-take (suc n) (x ∷ l) h = bytes-cons x (take n l) (h zero) (bytes-take n 
 
 pub bytes-slice : (from n : ℕ) (l : List ℕ) → Bytes l → Bytes (slice from n l)
 unfolding slice
-bytes-slice from n l h = bytes-take n (drop from l) (rest from l h)
-  where
-    rest : (i : ℕ) (l : List ℕ) → Bytes l → Bytes (drop i l)
-    rest zero l h = h
-    rest (suc i) [] h = h
-    rest (suc i) (x ∷ l) h = rest i l (λ k. h (suc k))
+bytes-slice from n l h = bytes-take n (drop from l) (λ k. rw (getD-drop from l k 0) (h (from + k)))
 
 -- ---- padding, and numbers of two bytes
 
