@@ -3,12 +3,12 @@ use mathlib.Core.Path.{_≡_, refl, ap, _∙_}
 use mathlib.Core.List.{List, [], _∷_}
 use Prim.Native.Nat.{ℕ, _-_, _/_, _≤_}
 use native.Mathlib.Omega.{arith}
-use lib.ListN.{length, getD, take, drop}
-use lib.Dec.{eqb}
+use lib.ListN.{length, take, drop}
+use lib.Seq.{take-all}
 use Rattle.laws.specs.Bytes.{slice, lay}
-use Rattle.laws.proofs.Bytes.{length-slice, slice-is, lay-take, lay-at}
-use Rattle.frame.specs.Digits.{bytesOf, checksumOf}
-use Rattle.frame.specs.Apart.{inner, bodyOf, contentsOf, sumOk}
+use Rattle.laws.proofs.Bytes.{length-slice, slice-is, lay-take}
+use Rattle.frame.specs.Digits.{bytesOf}
+use Rattle.frame.specs.Apart.{inner, bodyOf, contentsOf}
 
 length-bytes : (s : List ℕ) → length (bytesOf s) ≡ length s / 2
 unfolding bytesOf
@@ -38,20 +38,12 @@ module _ (f : List ℕ) (low : 9 ≤ length f) where
     unfolding bodyOf
     is-body = is ∙ ap (λ (s : List ℕ). lay z 0 (bytesOf s)) chars-are
 
+    work-take : (n : ℕ) → n ≤ length (bodyOf f) → take n work ≡ take n (bodyOf f)
+    work-take n h = let e = length-body in rw is-body (lay-take z (bodyOf f) (omega arith) n h)
+
+    pub work-body : take ((length f - 3) / 2) work ≡ bodyOf f
+    work-body = rw (← length-body) (work-take (length (bodyOf f)) (omega arith) ∙ take-all (length (bodyOf f)) (bodyOf f) (omega arith))
+
     pub work-contents : take ((length f - 3) / 2 - 1) work ≡ contentsOf f
     unfolding contentsOf slice
-    work-contents =
-        let h = length-body in
-        rw (is-body, ← length-body) (lay-take z (bodyOf f) (omega arith) (length (bodyOf f) - 1) (omega arith))
-
-    pub work-length : length (take ((length f - 3) / 2 - 1) work) ≡ (length f - 3) / 2 - 1
-    work-length = ap length work-contents ∙ length-contents
-
-    work-check : getD work ((length f - 3) / 2 - 1) 0 ≡ getD (bodyOf f) (length (bodyOf f) - 1) 0
-    work-check =
-        let h = length-body in
-        rw (is-body, ← length-body) (lay-at z (bodyOf f) (omega arith) (length (bodyOf f) - 1) (omega arith))
-
-    pub work-ok : (sum : ℕ) → sum ≡ checksumOf (take ((length f - 3) / 2 - 1) work) → sumOk f ≡ eqb (getD work ((length f - 3) / 2 - 1) 0) sum
-    unfolding sumOk
-    work-ok sum e = rw (e, work-contents, work-check)
+    work-contents = rw (← length-body) (work-take (length (bodyOf f) - 1) (omega arith))

@@ -5,5 +5,6 @@ pub mod Body
 pub mod Answers
 pub mod Capitals
 pub mod Coding
+pub mod Total
 pub mod Passing
 pub mod RoundTrip

@@ -29,7 +29,7 @@ bodyOf f = bytesOf (inner f)
 unfoldable pub contentsOf : List ℕ → List ℕ
 contentsOf f = slice 0 (length (bodyOf f) - 1) (bodyOf f)
 
--- the checksum is computed and compared
+-- the last byte is the checksum of those before it
 unfoldable pub sumOk : List ℕ → Bool
 sumOk f = eqb (getD (bodyOf f) (length (bodyOf f) - 1) 0) (checksumOf (contentsOf f))
 

@@ -1,10 +1,10 @@
-// Characters and bytes, and the checksum.
+// Characters and bytes.
 ghost use mathlib.Core.Path.{_≡_};
 ghost use mathlib.Core.Bool.{true};
 ghost use Prim.Native.Nat.{_<_, _≤_};
 ghost use lib.ListN.{length};
 ghost use Rattle.laws.specs.Bytes.{lay};
-ghost use Rattle.frame.specs.Digits.{isDigit, allDigits, valueOf, charOf, bytesOf, checksumOf};
+ghost use Rattle.frame.specs.Digits.{isDigit, allDigits, valueOf, charOf, bytesOf};
 
 // Early returns, so that each test stands as a fact in the proof.
 fn is_digit(c: u8) -> bool
@@ -71,17 +71,4 @@ pub(crate) fn bytes_of(s: &[u8], mut work: [u8; 133]) -> [u8; 133]
         k += 1;
     }
     work
-}
-
-pub(crate) fn checksum_of(s: &[u8]) -> u8
-    requires { ⌜ length (now s) ≤ 65536 ⌝ }
-    ensures { λ r. ⌜ r ≡ checksumOf (now (s .entry)) ⌝ }
-{
-    let mut sum: usize = 0;
-    let mut i = 0;
-    while i < s.len() {
-        sum += s[i] as usize;
-        i += 1;
-    }
-    ((255 - sum % 256 + 1) % 256) as u8
 }

@@ -4,18 +4,19 @@ use mathlib.Core.List.{List}
 use mathlib.Core.Bool.{Bool, true, false, cond}
 use Prim.Native.Nat.{ℕ, _-_, _/_, _≤_}
 use native.Mathlib.Omega.{arith}
-use lib.ListN.{length, getD, take}
+use lib.ListN.{length, take}
 use lib.Dec.{eqb}
 use borrow.Author.Tests.{not-true, not-false, eq-eqb, ne-eqb}
 use borrow.Author.Needs.{needs}
 use Rattle.laws.specs.Bytes.{lay}
 use Rattle.output.specs.Output.{refuse, written}
 use Rattle.output.proofs.Outcomes.{refused, filled}
-use Rattle.frame.specs.Digits.{allDigits}
-use Rattle.frame.specs.Apart.{lengthOk, endsOk, inner, contentsOf, apart}
-use Rattle.frame.proofs.Body.{chars-are, work-contents, work-length, work-ok}
+use Rattle.frame.specs.Digits.{allDigits, totalOf}
+use Rattle.frame.specs.Apart.{lengthOk, endsOk, inner, bodyOf, contentsOf, apart}
+use Rattle.frame.proofs.Body.{chars-are, length-body, length-contents, work-body, work-contents}
 use Rattle.frame.proofs.Answers.{length-below, length-above, length-even, length-right, length-fails, ends-fail, digits-fail}
 use Rattle.frame.proofs.Answers.{sum-decides, apart-room, apart-checked}
+use Rattle.frame.proofs.Total.{sum-by-total}
 use Rattle.frame.proofs.apart.take_apart.Statement.{statement}
 use Rattle.frame.proofs.apart.take_apart.Tie as tie
 
@@ -51,27 +52,38 @@ inner-is c = c .all-digits .ensures ∙ ap allDigits (chars-are _ (low (c .befor
 right-digits : (c : tie.Else6) → allDigits (inner (frameAt (long c))) ≡ true
 right-digits c = sym (inner-is (c .before)) ∙ not-false _ (c .if6 .left)
 
--- the bytes before the checksum, as the code counts them
-abbrev count : tie.After-bytes-of → ℕ
-count d = (length (frameAt (long (d .before))) - 3) / 2 - 1
+-- the body's bytes, and with the checksum left off, in the work array
+module _ (d : tie.After-bytes-of) where
+  abbrev sized : tie.Else4
+  sized = long (d .before)
 
-work-long : (d : tie.After-bytes-of) → length (take (count d) (d .bytes-of .result)) ≡ count d
-work-long d = let l = long (d .before) in work-length (frameAt l) (low l) (high l) _ _ refl (d .bytes-of .ensures)
+  abbrev bodyLong : ℕ
+  bodyLong = (length (frameAt sized) - 3) / 2
 
--- where the checks come to the sum, it decides
-module _ (c : tie.After-checksum-of) where
+  body-is : take bodyLong (d .bytes-of .result) ≡ bodyOf (frameAt sized)
+  body-is = work-body (frameAt sized) (low sized) (high sized) _ _ refl (d .bytes-of .ensures)
+
+  contents-are : take (bodyLong - 1) (d .bytes-of .result) ≡ contentsOf (frameAt sized)
+  contents-are = work-contents (frameAt sized) (low sized) (high sized) _ _ refl (d .bytes-of .ensures)
+
+  contents-long : length (take (bodyLong - 1) (d .bytes-of .result)) ≡ bodyLong - 1
+  contents-long = ap length contents-are ∙ length-contents (frameAt sized) (low sized)
+
+-- where the checks come to the sum, the total decides
+module _ (c : tie.After-total-of) where
   abbrev decoded : tie.After-bytes-of
   decoded = c .before .before
 
-  abbrev sized : tie.Else4
-  sized = long (decoded .before)
-
-  decided : (t : Bool) → eqb (getD (decoded .bytes-of .result) (count decoded) 0) (c .checksum-of .result) ≡ t
-      → apart (frameAt sized) (outAt sized) ≡ cond t (written (outAt sized) (contentsOf (frameAt sized))) (refuse (outAt sized) 6)
+  decided : (t : Bool) → eqb (c .total-of .result) 0 ≡ t
+      → apart (frameAt (sized decoded)) (outAt (sized decoded))
+      ≡ cond t (written (outAt (sized decoded)) (contentsOf (frameAt (sized decoded)))) (refuse (outAt (sized decoded)) 6)
   decided t e =
-      apart-checked _ _ (room sized)
-      ∙ sum-decides _ _ _ t (right-length sized) (right-ends (decoded .before .before .before .before)) (right-digits (decoded .before))
-      (work-ok _ (low sized) (high sized) _ _ refl (decoded .bytes-of .ensures) _ (c .checksum-of .ensures) ∙ e)
+      let l = sized decoded in
+      let digits = right-digits (decoded .before) in
+      let total : c .total-of .result ≡ totalOf (bodyOf (frameAt l)) = c .total-of .ensures ∙ ap totalOf (body-is decoded) in
+      apart-checked _ _ (room l)
+      ∙ sum-decides _ _ _ t (right-length l) (right-ends (decoded .before .before .before .before)) digits
+      (sum-by-total _ digits ∙ ap (λ (n : ℕ). eqb n 0) (sym total) ∙ e)
 
 -- ---- the needs
 
@@ -120,35 +132,32 @@ returns-6 c =
 bytes-of-requires : tie.Need-bytes-of-requires
 bytes-of-requires c κs = (omega arith, sym (c .before .all-digits .ensures) ∙ not-false _ (c .if6 .left))
 
+sub-m : tie.Need-sub-m
+sub-m c = omega arith
+
 sub-k : tie.Need-sub-k
 sub-k c = omega arith
-
-sub-k-2 : tie.Need-sub-k-2
-sub-k-2 c = omega arith
 
 array-share-prefix-work : tie.Need-array-share-prefix-work
 array-share-prefix-work c = omega arith
 
-slice-aggregate-checksum-of : tie.Need-slice-aggregate-checksum-of
-slice-aggregate-checksum-of c = sym (work-long (c .before))
+slice-aggregate-total-of : tie.Need-slice-aggregate-total-of
+slice-aggregate-total-of c = let l = sized (c .before) in sym (ap length (body-is (c .before)) ∙ length-body (frameAt l) (low l))
 
-checksum-of-requires : tie.Need-checksum-of-requires
-checksum-of-requires c κs = omega (arith, work-long (c .before))
-
-array-read-if7 : tie.Need-array-read-if7
-array-read-if7 c = omega arith
+total-of-requires : tie.Need-total-of-requires
+total-of-requires c κs = search needs
 
 returns-7 : tie.Need-returns-7
-returns-7 c = refused _ _ _ 6 (decided (c .before) false (ne-eqb _ _ (c .if7 .taken))) refl refl
+returns-7 c = refused _ _ _ 6 (decided (c .before) false (ne-eqb _ 0 (c .if7 .taken))) refl refl
 
 array-share-prefix-work-2 : tie.Need-array-share-prefix-work-2
 array-share-prefix-work-2 c = omega arith
 
 slice-aggregate-put-all : tie.Need-slice-aggregate-put-all
-slice-aggregate-put-all c = sym (work-long (c .before .before .before .before .before))
+slice-aggregate-put-all c = sym (contents-long (c .before .before .before .before .before))
 
 put-all-requires : tie.Need-put-all-requires
-put-all-requires c κs = omega (arith, work-long (c .before .before .before .before .before))
+put-all-requires c κs = omega (arith, contents-long (c .before .before .before .before .before))
 
 same-length : tie.Need-same-length
 same-length c = omega arith
@@ -157,11 +166,10 @@ returns-8 : tie.Need-returns-8
 returns-8 c =
     let p = c .before .before in
     let e = p .before .before .before in
-    let d = e .before .before .before in
-    let l = long (d .before) in
-    let is = work-contents (frameAt l) (low l) (high l) _ _ refl (d .bytes-of .ensures) in
-    let n : p .put-all .result .at ≡ length (contentsOf (frameAt l)) = omega (arith, p .put-all .ensures .past, ap length is) in
-    filled _ _ _ _ _ (decided (e .before) true (eq-eqb _ _ (e .if7 .left))) refl n (p .put-all .ensures .laid ∙ ap (lay (outAt l) 0) is)
+    let d = decoded (e .before) in
+    let l = sized d in
+    let n : p .put-all .result .at ≡ length (contentsOf (frameAt l)) = omega (arith, p .put-all .ensures .past, ap length (contents-are d)) in
+    filled _ _ _ _ _ (decided (e .before) true (eq-eqb _ 0 (e .if7 .left))) refl n (p .put-all .ensures .laid ∙ ap (lay (outAt l) 0) (contents-are d))
 
 pub take-apart-spec : {M : Type 1} → statement M
 take-apart-spec =
@@ -180,12 +188,11 @@ take-apart-spec =
     all-digits-requires
     returns-6
     bytes-of-requires
+    sub-m
     sub-k
-    sub-k-2
     array-share-prefix-work
-    slice-aggregate-checksum-of
-    checksum-of-requires
-    array-read-if7
+    slice-aggregate-total-of
+    total-of-requires
     returns-7
     array-share-prefix-work-2
     slice-aggregate-put-all
