@@ -80,6 +80,12 @@ planted 'a wrong digest' '^  got      S [0-9 ]+<0A>' probe - "sed '5{s/9\$/8/;t;
 planted 'a wrong number' '^  got      H 0 0 0<0A>' probe - "sed 's/^H 10 /H 0 /'"
 # Line 213 is P4 in the first output that is long enough, of 132 bytes.
 planted 'small letters not taken apart' '^  at       record T :0132cD' probe - "sed '213s/^T 0 2 /T 5 0 /'"
+planted 'a wrong checksum served' '^  at       piece :0132CE' desk - "sed '3s/^6\$/0 :01320FBE/'"
+planted 'a right checksum refused' '^  at       piece :0132CD' desk - "sed '1s/^0 .*/6/'"
+# Line 212 is P3 in that output.
+planted 'a wrong checksum taken apart' '^  at       record T :0132CE' probe - "sed '212s/^T 6 0 /T 0 2 /'"
+# Of P1's contents with each of the 256 checksums, the 206th is P1, and before them the fresh image has a line.
+planted 'one checksum of 256 not taken apart' '^FAILED probe script [0-9]+ \(every checksum, taken apart\)' probe - "sed '206{/^T 6 /{n;s/^T 0 2 /T 6 0 /}}'"
 planted 'a bad end of the probe' 'ended with exit status: 3$' probe 3 cat
 echo "self: $passed passed, $failed failed"
 [ "$failed" -eq 0 ]

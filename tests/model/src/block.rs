@@ -172,13 +172,14 @@ fn decode<'a>(frame: &[u8], body: &'a mut [u8; BODY_MAX]) -> Result<&'a [u8], Re
         .strip_prefix(b":")
         .and_then(|rest| rest.strip_suffix(b"\r\n"))
         .ok_or(Refusal::Ends)?;
-    let mut sum = 0u8;
+    // Document 02, wish 4: one running total of the whole body, checksum
+    // included; the carries are dropped, and 0 must be left.
+    let mut total = 0u8;
     for (byte, pair) in body.iter_mut().zip(digits.chunks_exact(2)) {
         *byte = half(pair[0])? << 4 | half(pair[1])?;
-        sum = sum.wrapping_add(*byte);
+        total = total.wrapping_add(*byte);
     }
-    // The checksum is what brings the whole body's sum to 0.
-    if sum != 0 {
+    if total != 0 {
         return Err(Refusal::Checksum);
     }
     Ok(&body[..digits.len() / 2 - 1])
@@ -196,13 +197,14 @@ fn half(character: u8) -> Result<u8, Refusal> {
 }
 
 /// Writes a frame; the caller has made sure that the output has room.
-/// Wish 2 leaves writing with capitals.
+/// Wish 2 leaves writing with capitals, and wish 4 leaves the checksum as
+/// document 01 has it: the sum inverted, plus 1, kept to 8 bits.
 fn encode(contents: &[u8], output: &mut [u8]) -> usize {
     const DIGITS: [u8; 16] = *b"0123456789ABCDEF";
     let sum = contents
         .iter()
         .fold(0u8, |sum, &byte| sum.wrapping_add(byte));
-    let checksum = [sum.wrapping_neg()];
+    let checksum = [(!sum).wrapping_add(1)];
     let end = 1 + 2 * (contents.len() + 1);
     output[0] = b':';
     let pairs = output[1..end].chunks_exact_mut(2);

@@ -1,8 +1,11 @@
 //! Counts of what the differential test reached, and what it must reach.
 
+mod checksum;
+
 use std::collections::BTreeMap;
 use std::io::{self, Write};
 
+use self::checksum::{CARRIES_KEPT, KINDS, WRONG};
 use crate::streams::{BESIDE_DIGITS, COMMANDS};
 use crate::{block, fixed};
 
@@ -46,6 +49,11 @@ enum Thing {
     BothCases(char),
     /// A frame refused 5 for this character alone.
     NoDigit(char, u8),
+    /// A frame that comes to the checksum's test, by its place in `KINDS`.
+    Sum(char, usize),
+    /// A frame that a wrong test would judge otherwise, by that test's place
+    /// in `WRONG`, and whether it is a right frame.
+    Misjudged(char, usize, bool),
 }
 
 /// How often each thing that the test must reach was reached.
@@ -73,6 +81,7 @@ impl Coverage {
         self.add(Thing::Number(call, number));
         if matches!(call, 'D' | 'S' | 'T') {
             self.count_letters(call, number, input);
+            self.count_sums(call, number, input);
         }
         if matches!(call, 'D' | 'S') {
             self.count_command(call, number, input);
@@ -93,6 +102,24 @@ impl Coverage {
         if number == 5 {
             if let Some(character) = only_wrong(frame) {
                 self.add(Thing::NoDigit(call, character));
+            }
+        }
+    }
+
+    fn count_sums(&mut self, call: char, number: u8, frame: &[u8]) {
+        if (1..6).contains(&number) {
+            return; // given before the checksum's test
+        }
+        let body = checksum::body(frame);
+        for (place, (_, fits)) in KINDS.iter().enumerate() {
+            if fits(&body, number) {
+                self.add(Thing::Sum(call, place));
+            }
+        }
+        let right = number != 6;
+        for (place, (_, takes)) in WRONG.iter().enumerate() {
+            if takes(&body) != right {
+                self.add(Thing::Misjudged(call, place, right));
             }
         }
     }
@@ -134,6 +161,8 @@ impl Coverage {
         self.print_numbers(out)?;
         self.print_commands(out)?;
         self.print_letters(out)?;
+        self.print_sums(out)?;
+        self.print_misjudged(out)?;
         let fixed = self.fixed.values();
         let wanted: usize = fixed.clone().map(|(rules, _)| rules.len()).sum();
         let came: usize = fixed.map(|(rules, count)| rules.len().min(*count)).sum();
@@ -197,6 +226,45 @@ impl Coverage {
         }
         Ok(())
     }
+
+    fn print_sums(&self, out: &mut impl Write) -> io::Result<()> {
+        writeln!(out, "\nby number and sum of the body")?;
+        write!(out, "{:28}", "")?;
+        for (_, name, _) in OF_FRAMES {
+            write!(out, "{name:>12}")?;
+        }
+        writeln!(out)?;
+        for (place, (kind, _)) in KINDS.iter().enumerate() {
+            write!(out, "{kind:28}")?;
+            for (call, _, _) in OF_FRAMES {
+                write!(out, "{:>12}", self.of(Thing::Sum(call, place)))?;
+            }
+            writeln!(out)?;
+        }
+        Ok(())
+    }
+
+    fn print_misjudged(&self, out: &mut impl Write) -> io::Result<()> {
+        writeln!(
+            out,
+            "\nright frames that a wrong test would refuse, and wrong ones that it would take"
+        )?;
+        write!(out, "{:28}", "")?;
+        for (_, name, _) in OF_FRAMES {
+            write!(out, "{name:>20}")?;
+        }
+        writeln!(out)?;
+        for (place, (test, _)) in WRONG.iter().enumerate() {
+            write!(out, "{test:28}")?;
+            for (call, _, _) in OF_FRAMES {
+                let [refused, taken] =
+                    [true, false].map(|right| self.of(Thing::Misjudged(call, place, right)));
+                write!(out, "{refused:>11} {taken:>8}")?;
+            }
+            writeln!(out)?;
+        }
+        Ok(())
+    }
 }
 
 fn print_row(
@@ -243,6 +311,7 @@ fn wanted() -> Vec<(Thing, String)> {
     }
     wanted.extend(wanted_of_commands());
     wanted.extend(wanted_of_letters());
+    wanted.extend(wanted_of_sums());
     wanted
 }
 
@@ -272,6 +341,24 @@ fn wanted_of_letters() -> Vec<(Thing, String)> {
         }
         let name = format!("{name}: both cases in one byte");
         wanted.push((Thing::BothCases(call), name));
+    }
+    wanted
+}
+
+fn wanted_of_sums() -> Vec<(Thing, String)> {
+    let mut wanted = Vec::new();
+    for (call, name, _) in OF_FRAMES {
+        for (place, (kind, _)) in KINDS.iter().enumerate() {
+            wanted.push((Thing::Sum(call, place), format!("{name}: number {kind}")));
+        }
+        for (place, &(test, _)) in WRONG.iter().enumerate() {
+            let refused = format!("{name}: a right frame refused with {test}");
+            wanted.push((Thing::Misjudged(call, place, true), refused));
+            if test != CARRIES_KEPT {
+                let taken = format!("{name}: a wrong frame taken with {test}");
+                wanted.push((Thing::Misjudged(call, place, false), taken));
+            }
+        }
     }
     wanted
 }

@@ -5,13 +5,13 @@
 use crate::desk::INPUT_MAX;
 use crate::fixed;
 use crate::streams::{
-    ask, clock, constants, either_case, errors, frame, in_either_case, part, piece, session, Rng,
-    CLOCK, COMMANDS, PARTS, TABLES,
+    ask, clock, constants, either_case, errors, frame, in_either_case, part, piece, session,
+    with_other_sums, Rng, CLOCK, COMMANDS, PARTS, TABLES,
 };
 
 type Case = (&'static str, fn(&mut Rng) -> Vec<u8>);
 
-const CASES: [Case; 37] = [
+const CASES: [Case; 38] = [
     ("rows of the paper", paper_rows),
     ("empty", |_| Vec::new()),
     ("65,536 bytes", |rng| filled(rng, INPUT_MAX)),
@@ -61,6 +61,7 @@ const CASES: [Case; 37] = [
     ("frame lengths", frame_lengths),
     ("ends", ends),
     ("letters in either case", letters),
+    ("other checksums", other_checksums),
 ];
 
 /// How many streams have a purpose of their own.
@@ -454,6 +455,15 @@ fn letters(rng: &mut Rng) -> Vec<u8> {
     let mut stream = Vec::new();
     for command in COMMANDS.repeat(20) {
         stream.extend(in_either_case(rng, 1, command).concat());
+    }
+    stream
+}
+
+/// Wish 4 for each of the commands; the longest draw stays below 65,536 bytes.
+fn other_checksums(rng: &mut Rng) -> Vec<u8> {
+    let mut stream = Vec::new();
+    for command in COMMANDS.repeat(10) {
+        stream.extend(with_other_sums(rng, 1, command).concat());
     }
     stream
 }

@@ -3,7 +3,10 @@
 //! them, the model is held to them, and a run in which one of them did not
 //! come out as written has failed.
 
+mod checksum;
 mod small_letters;
+
+use std::sync::LazyLock;
 
 use crate::block::IMAGE_BYTES;
 use crate::probe::{digest, IMAGE_ROOM, OUTPUT_ROOM};
@@ -148,11 +151,11 @@ impl Session {
             let mut output = [FILL; OUTPUT_ROOM];
             output[..step.wrote.len()].copy_from_slice(&step.wrote);
             let (letter, number, length) = (step.letter, step.number, step.wrote.len());
-            let image = digest(&image[..self.image_length]);
+            let image = || digest(&image[..self.image_length]);
             let output = digest(&output[..self.output]);
             lines.push(match letter {
-                'S' => format!("S {number} {length} {image} {output}"),
-                'F' => format!("F {number} {image}"),
+                'S' => format!("S {number} {length} {} {output}", image()),
+                'F' => format!("F {number} {}", image()),
                 'H' => format!("H {number} 0 0"),
                 _ => format!("{letter} {number} {length} {output}"),
             });
@@ -187,11 +190,17 @@ pub fn wanted() -> Vec<(Seen, String)> {
 
 /// The sessions that the desk program can run, with their streams.
 pub fn streams() -> Vec<(&'static str, Vec<u8>)> {
-    let named = |session: Session| Some((session.name, session.stream()?));
-    sessions().into_iter().filter_map(named).collect()
+    let named = |session: &Session| Some((session.name, session.stream()?));
+    sessions().iter().filter_map(named).collect()
 }
 
-pub fn sessions() -> Vec<Session> {
+/// All sessions, which are made once.
+pub fn sessions() -> &'static [Session] {
+    static SESSIONS: LazyLock<Vec<Session>> = LazyLock::new(all_sessions);
+    &SESSIONS
+}
+
+fn all_sessions() -> Vec<Session> {
     let mut sessions = vec![
         Session::new("one wrong end, served", one_wrong_end(serve)),
         Session::new("one wrong end, taken apart", one_wrong_end(take_apart)),
@@ -217,6 +226,7 @@ pub fn sessions() -> Vec<Session> {
         Session::new("commands beside those served", not_served()),
     ];
     sessions.extend(small_letters::sessions());
+    sessions.extend(checksum::sessions());
     sessions
 }
 

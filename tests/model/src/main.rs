@@ -7,7 +7,7 @@
 //!         [--streams N] [--seed S] [--failures M] [-- PREFIX...]
 //!
 //! The words of PREFIX are put before each program's path, for an emulator.
-//! Some seventy streams and scripts have a purpose of their own and come first;
+//! Some hundred streams and scripts have a purpose of their own and come first;
 //! a smaller N leaves none of them out. The run ends early after M failures.
 
 mod block;
@@ -72,7 +72,7 @@ fn pass(limit: usize, lines: fn(&[u8]) -> Vec<String>) -> io::Result<bool> {
 
 fn options(mut words: impl Iterator<Item = String>) -> Result<compare::Options, String> {
     let (mut desk, mut probe) = (None, None);
-    let (mut streams, mut seed, mut failures) = (230, 2012, usize::MAX);
+    let (mut streams, mut seed, mut failures) = (256, 2012, usize::MAX);
     let mut prefix = Vec::new();
     while let Some(word) = words.next() {
         if word == "--" {

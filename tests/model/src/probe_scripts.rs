@@ -4,8 +4,8 @@
 use crate::fixed::{self, Session, FILL};
 use crate::probe::SCRIPT_MAX;
 use crate::streams::{
-    ask, clock, constants, either_case, errors, frame, in_either_case, part, piece, session, Rng,
-    COMMANDS,
+    ask, clock, constants, either_case, errors, frame, in_either_case, part, piece, session,
+    with_other_sums, Rng, COMMANDS,
 };
 
 const IMAGE_BYTES: usize = 23_753;
@@ -16,7 +16,7 @@ const TABLES: usize = 1225;
 
 type Case = (&'static str, fn(&mut Rng) -> Script);
 
-const CASES: [Case; 21] = [
+const CASES: [Case; 22] = [
     ("empty", |_| Script::default()),
     ("rows at other addresses", other_addresses),
     ("fresh images", fresh_images),
@@ -38,6 +38,7 @@ const CASES: [Case; 21] = [
     ("65,536 bytes in one record", |_| filled(SCRIPT_MAX)),
     ("a record past 65,536 bytes", |_| filled(SCRIPT_MAX + 1)),
     ("records after 65,536 bytes", records_past_end),
+    ("other checksums", other_checksums),
 ];
 
 /// How many scripts `broken` has.
@@ -487,6 +488,22 @@ fn letters(rng: &mut Rng) -> Script {
         script.fresh(address);
         for command in COMMANDS {
             for frame in in_either_case(rng, address, command) {
+                script.output(269, rng.byte());
+                script.serve(&frame).take_apart(&frame);
+            }
+        }
+    }
+    script.show_all();
+    script
+}
+
+/// Wish 4 for each of the commands; the longest draw stays below 65,536 bytes.
+fn other_checksums(rng: &mut Rng) -> Script {
+    let mut script = Script::default();
+    for address in [1, 0xCE, 0x80, 0xFF] {
+        script.fresh(address);
+        for command in COMMANDS {
+            for frame in with_other_sums(rng, address, command) {
                 script.output(269, rng.byte());
                 script.serve(&frame).take_apart(&frame);
             }

@@ -215,6 +215,30 @@ fn small_letters_stand_for_ten_to_fifteen() {
     }
 }
 
+/// Wish 4 tests what is received by one total, document 01 computes what is
+/// built by a rule of its own, and only the checksum built may be accepted.
+#[test]
+fn total_is_0_for_the_checksum_built_alone() {
+    let mut rng = Rng::new(1, 12);
+    let two = |first| (0..=255).map(move |second| vec![first, second]);
+    let longer = (3..=132).map(|count| rng.bytes(count));
+    let checksums: Vec<String> = (0..=255).map(|byte| format!("{byte:02X}")).collect();
+    let (mut frame, mut output) = ([0; 269], [0; 132]);
+    for contents in (0..=255).flat_map(two).chain(longer) {
+        let length = build(&contents, &mut frame).expect("room for the longest");
+        let frame = &mut frame[..length];
+        let built = [frame[length - 4], frame[length - 3]];
+        for checksum in &checksums {
+            frame[length - 4..length - 2].copy_from_slice(checksum.as_bytes());
+            let outcome = match checksum.as_bytes() == built {
+                true => Ok(contents.len()),
+                false => Err(Refusal::Checksum),
+            };
+            assert_eq!(take_apart(frame, &mut output), outcome);
+        }
+    }
+}
+
 #[test]
 fn halves_are_sent_as_published() {
     let mut output = [0; 9];
@@ -502,7 +526,7 @@ fn probe_stops_at_a_record_cut_short() {
 #[test]
 fn fixed_calls_come_out_as_written() {
     for session in fixed::sessions() {
-        let lines = probe::lines(&probe_scripts::fixed_calls(&session));
+        let lines = probe::lines(&probe_scripts::fixed_calls(session));
         // The first line is that of the fresh image.
         assert_eq!(lines[1..], session.probe_lines(), "{}", session.name);
         if let Some(stream) = session.stream() {

@@ -87,16 +87,35 @@ impl Rng {
     }
 }
 
-/// A frame around these contents, whatever their number.
-pub fn frame(contents: &[u8]) -> Vec<u8> {
-    let sum: u32 = contents.iter().map(|&byte| u32::from(byte)).sum();
-    let checksum = (256 - sum % 256) % 256;
+/// A frame around this body, whose last byte stands for the checksum,
+/// whatever it is.
+pub fn spelled(body: &[u8]) -> Vec<u8> {
     let mut text = String::from(":");
-    for byte in contents {
+    for byte in body {
         text.push_str(&format!("{byte:02X}"));
     }
-    text.push_str(&format!("{checksum:02X}\r\n"));
+    text.push_str("\r\n");
     text.into_bytes()
+}
+
+fn checksum(contents: &[u8]) -> u8 {
+    let sum: u32 = contents.iter().map(|&byte| u32::from(byte)).sum();
+    ((256 - sum % 256) % 256) as u8
+}
+
+/// What the checksum would be if each carry were added in again at the low
+/// end of the sum.
+pub fn end_around(contents: &[u8]) -> u8 {
+    let sum = contents.iter().fold(0, |sum, &byte| {
+        let sum = sum + u32::from(byte);
+        sum % 256 + sum / 256
+    });
+    ((256 - sum) % 256) as u8
+}
+
+/// A frame around these contents, whatever their number.
+pub fn frame(contents: &[u8]) -> Vec<u8> {
+    spelled(&[contents, &[checksum(contents)]].concat())
 }
 
 /// A frame from its address, its command and its data.
@@ -307,7 +326,40 @@ pub fn in_either_case(rng: &mut Rng, address: u8, command: u8) -> [Vec<u8>; 4] {
     .map(|frame| either_case(rng, frame))
 }
 
-/// The frame of these contents, about one in seven with a fault of its own,
+/// Frames of a request for the checksum's test.
+pub fn with_other_sums(rng: &mut Rng, address: u8, command: u8) -> [Vec<u8>; 7] {
+    let data = data(rng, command);
+    other_sums(rng, &contents(address, command, &data))
+}
+
+/// Frames of these contents with other checksums, which for some contents
+/// are right all the same, and one in which the total stays.
+fn other_sums(rng: &mut Rng, contents: &[u8]) -> [Vec<u8>; 7] {
+    let right = checksum(contents);
+    let any_other = right.wrapping_add(rng.between(1, 255));
+    let with = |checksum| spelled(&[contents, &[checksum]].concat());
+    [
+        with(right.wrapping_add(1)),
+        with(right.wrapping_sub(1)),
+        with(checksum(&contents[1..])),
+        with(end_around(contents)),
+        with(right.wrapping_neg()), // the sum itself
+        with(any_other),
+        same_total(rng, [contents, &[right]].concat()),
+    ]
+}
+
+/// Two bytes of the body are changed, one by what the other loses.
+fn same_total(rng: &mut Rng, mut body: Vec<u8>) -> Vec<u8> {
+    let change = rng.between(1, 255);
+    let up = rng.below(body.len());
+    let down = (up + 1 + rng.below(body.len() - 1)) % body.len();
+    body[up] = body[up].wrapping_add(change);
+    body[down] = body[down].wrapping_sub(change);
+    spelled(&body)
+}
+
+/// The frame of these contents, about one in six with a fault of its own,
 /// and one in two with letters in either case.
 pub fn piece(rng: &mut Rng, contents: &[u8]) -> Vec<u8> {
     let frame = match rng.below(35) {
@@ -317,6 +369,10 @@ pub fn piece(rng: &mut Rng, contents: &[u8]) -> Vec<u8> {
             frame(&other)
         }
         1..=4 => damage(rng, frame(contents)),
+        5 => {
+            let mut frames = other_sums(rng, contents);
+            std::mem::take(&mut frames[rng.below(7)])
+        }
         _ => frame(contents),
     };
     match rng.percent(50) {
