@@ -5,25 +5,26 @@ use mathlib.Core.Logic.{_↔_}
 use mathlib.Core.List.{List, [], _∷_}
 use mathlib.Core.Bool.{true}
 use Prim.Native.Nat.{ℕ, _+_, _-_, _<_}
+use native.Mathlib.Nat.{add-assoc}
 use native.Mathlib.Decide.{ℕ-discrete}
 use native.Mathlib.Omega.{arith}
-use lib.ListN.{length, getD, take, drop, take-append-drop}
+use lib.ListN.{length, getD, take}
 use lib.Dec.{eqb}
 use borrow.Author.Tests.{eq-eqb, ne-eqb}
 use Rattle.laws.specs.Bytes.{slice, sumOf}
-use Rattle.laws.proofs.Sums.{sum-next, sum-done, sum-append}
 use Rattle.frame.specs.Digits.{allDigits, totalOf, checksumOf}
 use Rattle.frame.specs.Apart.{inner, bodyOf, contentsOf, sumOk}
 use Rattle.frame.proofs.Coding.{bytes-low}
 
+sum-some : (x : ℕ) (l : List ℕ) → sumOf (x ∷ l) ≡ sumOf (take (length l) (x ∷ l)) + getD (x ∷ l) (length l) 0
+unfolding sumOf
+sum-some x [] = omega arith
+sum-some x (y ∷ l) = ap (λ (n : ℕ). x + n) (sum-some y l) ∙ sym (add-assoc x _ _)
+
 sum-last : (b : List ℕ) → sumOf b ≡ sumOf (slice 0 (length b - 1) b) + getD b (length b - 1) 0
 unfolding sumOf slice
 sum-last [] = refl
-sum-last (x ∷ l) =
-    let b : List ℕ = x ∷ l in
-    let n = length b - 1 in
-    let e : sumOf b ≡ sumOf (take n b) + sumOf (drop n b) = ap sumOf (sym (take-append-drop n b)) ∙ sum-append (take n b) (drop n b) in
-    omega (arith, sum-next b n (omega arith), sum-done b (n + 1) (omega arith))
+sum-last (x ∷ l) = let n : length (x ∷ l) - 1 ≡ length l = omega arith in rw n (sum-some x l)
 
 -- of any bytes: nothing is asked of those before the last
 pub total-exactly : (b : List ℕ) → getD b (length b - 1) 0 < 256

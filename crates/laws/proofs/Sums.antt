@@ -1,9 +1,7 @@
--- The sum of a list, as a loop adds it up and as lists are put together: the one fact behind the checksum and the signatures of all three sizes.
--- Assumes nothing.
+-- The sum of a list, as a loop adds it up: the one fact behind the checksum and the signatures of all three sizes. Assumes nothing.
 use mathlib.Core.Path.{_≡_}
-use mathlib.Core.List.{List, [], _∷_, _++_}
+use mathlib.Core.List.{List}
 use Prim.Native.Nat.{ℕ, _+_, _≤_, _<_}
-use native.Mathlib.Omega.{arith}
 use lib.ListN.{length, getD, drop}
 use Rattle.laws.specs.Bytes.{sumOf}
 use Rattle.laws.proofs.Walks.{next, none-left}
@@ -15,8 +13,3 @@ sum-next s i h = rw (next s i h)
 pub sum-done : (s : List ℕ) (i : ℕ) → length s ≤ i → sumOf (drop i s) ≡ 0
 unfolding sumOf
 sum-done s i h = rw (none-left s i h)
-
-pub sum-append : (a b : List ℕ) → sumOf (a ++ b) ≡ sumOf a + sumOf b
-unfolding sumOf
-sum-append [] b = omega arith
-sum-append (x ∷ a) b = let e = sum-append a b in omega arith
