@@ -5,6 +5,6 @@ pub mod Body
 pub mod Answers
 pub mod Capitals
 pub mod Coding
-pub mod Total
+pub mod Totals
 pub mod Passing
 pub mod RoundTrip

@@ -40,10 +40,6 @@ bytesOf [] = []
 bytesOf (x ∷ []) = []
 bytesOf (x ∷ (y ∷ cs)) = (16 * valueOf x + valueOf y) ∷ bytesOf cs
 
--- bytes added up, the carries dropped: what technicians look at (document 02, request 4)
-abbrev pub totalOf : List ℕ → ℕ
-totalOf bytes = sumOf bytes % 256
-
 -- the checksum: the 8-bit sum inverted, which is 255 less it, plus 1, kept to 8 bits. A sum of 0 gives 0
 unfoldable pub checksumOf : List ℕ → ℕ
 checksumOf bytes = (255 - sumOf bytes % 256 + 1) % 256

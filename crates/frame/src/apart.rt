@@ -4,9 +4,9 @@ ghost use Prim.Native.Nat.{_≤_};
 ghost use lib.ListN.{length};
 ghost use Rattle.output.specs.Output.{Does};
 ghost use Rattle.frame.specs.Apart.{apart, endsOk};
-use crate::checksum::total_of;
 use crate::digits::all_digits;
 use crate::digits::bytes_of;
+use crate::total::total_of;
 use output::Answer;
 use output::Cursor;
 
@@ -48,9 +48,8 @@ pub fn take_apart(frame: &[u8], out: &mut [u8]) -> Answer
         return Answer { number: 5, len: 0 };
     }
     let work = bytes_of(chars, [0u8; 133]);
-    let m = (n - 3) / 2;
-    let k = m - 1;
-    if total_of(&work[..m]) != 0 {
+    let k = (n - 3) / 2 - 1;
+    if total_of(&work[..k + 1]) != 0 {
         return Answer { number: 6, len: 0 };
     }
     let start = Cursor { at: 0 };

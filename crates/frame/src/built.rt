@@ -6,8 +6,8 @@ ghost use Rattle.output.specs.Cursor.{Laid};
 ghost use Rattle.output.specs.Output.{Does};
 ghost use Rattle.frame.specs.Digits.{charsOf};
 ghost use Rattle.frame.specs.Built.{built};
-use crate::checksum::checksum_of;
 use crate::digits::char_of;
+use crate::digits::checksum_of;
 use output::Answer;
 use output::Cursor;
 

@@ -1,10 +1,11 @@
-// Characters and bytes.
+// Characters and bytes, and the checksum.
 ghost use mathlib.Core.Path.{_≡_};
 ghost use mathlib.Core.Bool.{true};
 ghost use Prim.Native.Nat.{_<_, _≤_};
 ghost use lib.ListN.{length};
 ghost use Rattle.laws.specs.Bytes.{lay};
-ghost use Rattle.frame.specs.Digits.{isDigit, allDigits, valueOf, charOf, bytesOf};
+ghost use Rattle.frame.specs.Digits.{isDigit, allDigits, valueOf, charOf, bytesOf, checksumOf};
+use crate::total::total_of;
 
 // Early returns, so that each test stands as a fact in the proof.
 fn is_digit(c: u8) -> bool
@@ -71,4 +72,10 @@ pub(crate) fn bytes_of(s: &[u8], mut work: [u8; 133]) -> [u8; 133]
         k += 1;
     }
     work
+}
+
+pub(crate) fn checksum_of(s: &[u8]) -> u8
+    ensures { λ r. ⌜ r ≡ checksumOf (now (s .entry)) ⌝ }
+{
+    ((255 - total_of(s) as u16 + 1) % 256) as u8
 }

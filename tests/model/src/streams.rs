@@ -326,7 +326,7 @@ pub fn in_either_case(rng: &mut Rng, address: u8, command: u8) -> [Vec<u8>; 4] {
     .map(|frame| either_case(rng, frame))
 }
 
-/// Frames of a request for the checksum's test.
+/// A request's frames with other checksums, as `other_sums` has them.
 pub fn with_other_sums(rng: &mut Rng, address: u8, command: u8) -> [Vec<u8>; 7] {
     let data = data(rng, command);
     other_sums(rng, &contents(address, command, &data))
@@ -370,8 +370,8 @@ pub fn piece(rng: &mut Rng, contents: &[u8]) -> Vec<u8> {
         }
         1..=4 => damage(rng, frame(contents)),
         5 => {
-            let mut frames = other_sums(rng, contents);
-            std::mem::take(&mut frames[rng.below(7)])
+            let frames = other_sums(rng, contents);
+            frames[rng.below(frames.len())].clone()
         }
         _ => frame(contents),
     };

@@ -219,8 +219,8 @@ fn wrong_tests() -> Vec<Row> {
         // The first byte left out.
         mask("FFh behind the first byte", [0x01, 0x33, 0x10, 0xBC]),
         wrong("100h behind the first byte", &[0x01, 0x33, 0x10, 0xBD]),
-        // The carries added in again at the low end of the total, which makes
-        // it a remainder by 255.
+        // A remainder by 255, as if the carries were added in again at the low
+        // end of the total.
         mask("100h, by 255 it is 1", [0x01, 0x33, 0x20, 0xAC]),
         wrong("FFh, by 255 it is 0", &[0x01, 0x33, 0x20, 0xAB]),
         wrong("1FEh, by 255 it is 0", &[0x01, 0x33, 0xFF, 0xCB]),

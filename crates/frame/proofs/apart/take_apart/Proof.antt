@@ -2,21 +2,22 @@
 use mathlib.Core.Path.{_≡_, refl, sym, ap, _∙_}
 use mathlib.Core.List.{List}
 use mathlib.Core.Bool.{Bool, true, false, cond}
-use Prim.Native.Nat.{ℕ, _-_, _/_, _≤_}
+use Prim.Native.Nat.{ℕ, _+_, _-_, _/_, _%_, _≤_}
 use native.Mathlib.Omega.{arith}
 use lib.ListN.{length, take}
+use lib.Seq.{length-take-le}
 use lib.Dec.{eqb}
 use borrow.Author.Tests.{not-true, not-false, eq-eqb, ne-eqb}
 use borrow.Author.Needs.{needs}
-use Rattle.laws.specs.Bytes.{lay}
+use Rattle.laws.specs.Bytes.{lay, sumOf}
 use Rattle.output.specs.Output.{refuse, written}
 use Rattle.output.proofs.Outcomes.{refused, filled}
-use Rattle.frame.specs.Digits.{allDigits, totalOf}
+use Rattle.frame.specs.Digits.{allDigits}
 use Rattle.frame.specs.Apart.{lengthOk, endsOk, inner, bodyOf, contentsOf, apart}
-use Rattle.frame.proofs.Body.{chars-are, length-body, length-contents, work-body, work-contents}
+use Rattle.frame.proofs.Body.{chars-are, work-contents, work-body}
 use Rattle.frame.proofs.Answers.{length-below, length-above, length-even, length-right, length-fails, ends-fail, digits-fail}
 use Rattle.frame.proofs.Answers.{sum-decides, apart-room, apart-checked}
-use Rattle.frame.proofs.Total.{sum-by-total}
+use Rattle.frame.proofs.Totals.{sum-by-total}
 use Rattle.frame.proofs.apart.take_apart.Statement.{statement}
 use Rattle.frame.proofs.apart.take_apart.Tie as tie
 
@@ -52,38 +53,29 @@ inner-is c = c .all-digits .ensures ∙ ap allDigits (chars-are _ (low (c .befor
 right-digits : (c : tie.Else6) → allDigits (inner (frameAt (long c))) ≡ true
 right-digits c = sym (inner-is (c .before)) ∙ not-false _ (c .if6 .left)
 
--- the body's bytes, and with the checksum left off, in the work array
-module _ (d : tie.After-bytes-of) where
-  abbrev sized : tie.Else4
-  sized = long (d .before)
+-- the bytes before the checksum, as the code counts them
+abbrev count : tie.After-bytes-of → ℕ
+count d = (length (frameAt (long (d .before))) - 3) / 2 - 1
 
-  abbrev bodyLong : ℕ
-  bodyLong = (length (frameAt sized) - 3) / 2
-
-  body-is : take bodyLong (d .bytes-of .result) ≡ bodyOf (frameAt sized)
-  body-is = work-body (frameAt sized) (low sized) (high sized) _ _ refl (d .bytes-of .ensures)
-
-  contents-are : take (bodyLong - 1) (d .bytes-of .result) ≡ contentsOf (frameAt sized)
-  contents-are = work-contents (frameAt sized) (low sized) (high sized) _ _ refl (d .bytes-of .ensures)
-
-  contents-long : length (take (bodyLong - 1) (d .bytes-of .result)) ≡ bodyLong - 1
-  contents-long = ap length contents-are ∙ length-contents (frameAt sized) (low sized)
+body-is : (d : tie.After-bytes-of) → take (count d + 1) (d .bytes-of .result) ≡ bodyOf (frameAt (long (d .before)))
+body-is d = let l = long (d .before) in work-body (frameAt l) (low l) (high l) _ _ refl (d .bytes-of .ensures)
 
 -- where the checks come to the sum, the total decides
 module _ (c : tie.After-total-of) where
   abbrev decoded : tie.After-bytes-of
   decoded = c .before .before
 
+  abbrev sized : tie.Else4
+  sized = long (decoded .before)
+
   decided : (t : Bool) → eqb (c .total-of .result) 0 ≡ t
-      → apart (frameAt (sized decoded)) (outAt (sized decoded))
-      ≡ cond t (written (outAt (sized decoded)) (contentsOf (frameAt (sized decoded)))) (refuse (outAt (sized decoded)) 6)
+      → apart (frameAt sized) (outAt sized) ≡ cond t (written (outAt sized) (contentsOf (frameAt sized))) (refuse (outAt sized) 6)
   decided t e =
-      let l = sized decoded in
       let digits = right-digits (decoded .before) in
-      let total : c .total-of .result ≡ totalOf (bodyOf (frameAt l)) = c .total-of .ensures ∙ ap totalOf (body-is decoded) in
-      apart-checked _ _ (room l)
-      ∙ sum-decides _ _ _ t (right-length l) (right-ends (decoded .before .before .before .before)) digits
-      (sum-by-total _ digits ∙ ap (λ (n : ℕ). eqb n 0) (sym total) ∙ e)
+      let total : c .total-of .result ≡ sumOf (take (count decoded + 1) (decoded .bytes-of .result)) % 256 = c .total-of .ensures in
+      apart-checked _ _ (room sized)
+      ∙ sum-decides _ _ _ t (right-length sized) (right-ends (decoded .before .before .before .before)) digits
+      (sum-by-total _ digits ∙ rw (← body-is decoded, ← total) e)
 
 -- ---- the needs
 
@@ -132,17 +124,20 @@ returns-6 c =
 bytes-of-requires : tie.Need-bytes-of-requires
 bytes-of-requires c κs = (omega arith, sym (c .before .all-digits .ensures) ∙ not-false _ (c .if6 .left))
 
-sub-m : tie.Need-sub-m
-sub-m c = omega arith
-
 sub-k : tie.Need-sub-k
 sub-k c = omega arith
+
+sub-k-2 : tie.Need-sub-k-2
+sub-k-2 c = omega arith
+
+add-work : tie.Need-add-work
+add-work c = omega arith
 
 array-share-prefix-work : tie.Need-array-share-prefix-work
 array-share-prefix-work c = omega arith
 
 slice-aggregate-total-of : tie.Need-slice-aggregate-total-of
-slice-aggregate-total-of c = let l = sized (c .before) in sym (ap length (body-is (c .before)) ∙ length-body (frameAt l) (low l))
+slice-aggregate-total-of c = sym (length-take-le _ _ (omega arith))
 
 total-of-requires : tie.Need-total-of-requires
 total-of-requires c κs = search needs
@@ -154,10 +149,12 @@ array-share-prefix-work-2 : tie.Need-array-share-prefix-work-2
 array-share-prefix-work-2 c = omega arith
 
 slice-aggregate-put-all : tie.Need-slice-aggregate-put-all
-slice-aggregate-put-all c = sym (contents-long (c .before .before .before .before .before))
+slice-aggregate-put-all c = sym (length-take-le _ _ (omega arith))
 
 put-all-requires : tie.Need-put-all-requires
-put-all-requires c κs = omega (arith, contents-long (c .before .before .before .before .before))
+put-all-requires c κs =
+    let d = c .before .before .before .before .before in
+    omega (arith, length-take-le (count d) (d .bytes-of .result) (omega arith))
 
 same-length : tie.Need-same-length
 same-length c = omega arith
@@ -166,10 +163,11 @@ returns-8 : tie.Need-returns-8
 returns-8 c =
     let p = c .before .before in
     let e = p .before .before .before in
-    let d = decoded (e .before) in
-    let l = sized d in
-    let n : p .put-all .result .at ≡ length (contentsOf (frameAt l)) = omega (arith, p .put-all .ensures .past, ap length (contents-are d)) in
-    filled _ _ _ _ _ (decided (e .before) true (eq-eqb _ 0 (e .if7 .left))) refl n (p .put-all .ensures .laid ∙ ap (lay (outAt l) 0) (contents-are d))
+    let d = e .before .before .before in
+    let l = long (d .before) in
+    let is = work-contents (frameAt l) (low l) (high l) _ _ refl (d .bytes-of .ensures) in
+    let n : p .put-all .result .at ≡ length (contentsOf (frameAt l)) = omega (arith, p .put-all .ensures .past, ap length is) in
+    filled _ _ _ _ _ (decided (e .before) true (eq-eqb _ 0 (e .if7 .left))) refl n (p .put-all .ensures .laid ∙ ap (lay (outAt l) 0) is)
 
 pub take-apart-spec : {M : Type 1} → statement M
 take-apart-spec =
@@ -188,8 +186,9 @@ take-apart-spec =
     all-digits-requires
     returns-6
     bytes-of-requires
-    sub-m
     sub-k
+    sub-k-2
+    add-work
     array-share-prefix-work
     slice-aggregate-total-of
     total-of-requires

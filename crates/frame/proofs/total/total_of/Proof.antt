@@ -1,24 +1,21 @@
--- The loop keeps the total: put before what remains, it has the total of all. Assumes nothing.
+-- The loop keeps the total: with what remains it comes, carries dropped, to the sum of all. Assumes nothing.
 use mathlib.Core.Path.{_≡_}
-use mathlib.Core.List.{_∷_}
-use Prim.Native.Nat.{_-_, _≤_, _<_}
+use Prim.Native.Nat.{_+_, _-_, _%_, _<_}
 use native.Mathlib.Omega.{arith}
 use lib.ListN.{length, drop}
 use Rattle.laws.specs.Bytes.{sumOf}
 use Rattle.laws.proofs.Sums.{sum-next, sum-done}
-use Rattle.frame.specs.Digits.{totalOf}
-use Rattle.frame.proofs.checksum.total_of.Statement.{statement}
-use Rattle.frame.proofs.checksum.total_of.Tie as tie
+use Rattle.frame.proofs.total.total_of.Statement.{statement}
+use Rattle.frame.proofs.total.total_of.Tie as tie
 
 abbrev Inv-loop : tie.InvT-loop
-Inv-loop s total₀ i₀ total i = (i ≤ length s) × (total < 256) × (totalOf (total ∷ drop i s) ≡ totalOf s)
+Inv-loop s total₀ i₀ total i = (total < 256) × ((total + sumOf (drop i s)) % 256 ≡ sumOf s % 256)
 
 abbrev μ-loop : tie.MeasureT-loop
 μ-loop s total₀ i₀ total i = length s - i
 
 loop-holds : tie.Need-loop-holds Inv-loop μ-loop
-unfolding sumOf
-loop-holds c = (omega arith, omega arith, omega arith)
+loop-holds c = (omega arith, omega arith)
 
 cast-total : tie.Need-cast-total Inv-loop μ-loop
 cast-total c = omega arith
@@ -42,13 +39,11 @@ loop-less : tie.Need-loop-less Inv-loop μ-loop
 loop-less c = omega arith
 
 loop-again : tie.Need-loop-again Inv-loop μ-loop
-unfolding sumOf
 loop-again c =
     let l = c .before .before in
     omega (arith, c .shared-slice-known .given (l .loop .i), sum-next (l .before .args .s .now) (l .loop .i) (omega arith))
 
 returns : tie.Need-returns Inv-loop μ-loop
-unfolding sumOf
 returns c = omega (arith, sum-done (c .before .before .args .s .now) (c .before .loop .i) (omega arith))
 
 pub total-of-spec : {M : Type 1} → statement M

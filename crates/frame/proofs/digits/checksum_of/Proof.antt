@@ -1,10 +1,8 @@
 -- The rule's 8-bit sum is the total. Assumes nothing.
-use mathlib.Core.Path.{ap}
-use Prim.Native.Nat.{ℕ, _+_, _-_, _%_}
 use borrow.Author.Needs.{needs}
 use Rattle.frame.specs.Digits.{checksumOf}
-use Rattle.frame.proofs.checksum.checksum_of.Statement.{statement}
-use Rattle.frame.proofs.checksum.checksum_of.Tie as tie
+use Rattle.frame.proofs.digits.checksum_of.Statement.{statement}
+use Rattle.frame.proofs.digits.checksum_of.Tie as tie
 
 total-of-requires : tie.Need-total-of-requires
 total-of-requires c κs = search needs
@@ -23,7 +21,7 @@ cast-result-2 c = search needs
 
 returns : tie.Need-returns
 unfolding checksumOf
-returns c = ap (λ (n : ℕ). (255 - n + 1) % 256) (c .total-of .ensures)
+returns c = search needs
 
 pub checksum-of-spec : {M : Type 1} → statement M
 checksum-of-spec = tie.close (tie.spec total-of-requires cast-result sub-result add-result cast-result-2 returns)
