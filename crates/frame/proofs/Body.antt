@@ -1,14 +1,15 @@
 -- The lengths of a frame's parts, and the work array that holds its decoded body. Assumes nothing.
 use mathlib.Core.Path.{_≡_, refl, ap, _∙_}
 use mathlib.Core.List.{List, [], _∷_}
-use Prim.Native.Nat.{ℕ, _+_, _-_, _/_, _≤_}
+use Prim.Native.Nat.{ℕ, _+_, _-_, _*_, _/_, _≤_, _<_}
 use native.Mathlib.Omega.{arith}
-use lib.ListN.{length, take, drop}
-use lib.Seq.{take-all}
+use lib.ListN.{length, getD, take, drop}
+use lib.Seq.{getD-take, getD-drop, take-all}
 use Rattle.laws.specs.Bytes.{slice, lay}
 use Rattle.laws.proofs.Bytes.{length-slice, slice-is, lay-take}
-use Rattle.frame.specs.Digits.{bytesOf}
+use Rattle.frame.specs.Digits.{valueOf, bytesOf}
 use Rattle.frame.specs.Apart.{inner, bodyOf, contentsOf}
+use Rattle.frame.proofs.Coding.{bytes-each}
 
 length-bytes : (s : List ℕ) → length (bytesOf s) ≡ length s / 2
 unfolding bytesOf
@@ -32,6 +33,20 @@ module _ (f : List ℕ) (low : 9 ≤ length f) where
   pub length-contents : length (contentsOf f) ≡ (length f - 3) / 2 - 1
   unfolding contentsOf
   length-contents = length-slice 0 (length (bodyOf f) - 1) (bodyOf f) (omega arith) ∙ ap (λ (n : ℕ). n - 1) length-body
+
+  char-at : (k : ℕ) → k < length f - 3 → getD (inner f) k 0 ≡ getD f (k + 1) 0
+  unfolding inner slice
+  char-at k h = let e : k + 1 ≡ 1 + k = omega arith in rw e (getD-take (length f - 3) (drop 1 f) k 0 h ∙ getD-drop 1 f k 0)
+
+  -- the contents, read off the line: a byte is what its two characters in the frame stand for
+  pub contents-each : (i : ℕ) → i < (length f - 3) / 2 - 1
+      → getD (contentsOf f) i 0 ≡ 16 * valueOf (getD f (2 * i + 1) 0) + valueOf (getD f (2 * i + 2) 0)
+  unfolding contentsOf slice bodyOf
+  contents-each i h =
+      let e : 2 * i + 1 + 1 ≡ 2 * i + 2 = omega arith in
+      getD-take (length (bodyOf f) - 1) (bodyOf f) i 0 (omega (arith, length-body))
+      ∙ bytes-each (inner f) i (omega (arith, length-inner))
+      ∙ rw (char-at (2 * i) (omega arith), char-at (2 * i + 1) (omega arith), e)
 
   module _ (high : length f ≤ 269) (z work : List ℕ) (long : length z ≡ 133) (is : work ≡ lay z 0 (bytesOf (take (length f - 2 - 1) (drop 1 f)))) where
     is-body : work ≡ lay z 0 (bodyOf f)

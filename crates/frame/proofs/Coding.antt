@@ -5,7 +5,7 @@ use mathlib.Core.Bool.{Bool, true, false, not, _&&_}
 use Prim.Native.Nat.{ℕ, zero, suc, _+_, _-_, _*_, _/_, _%_, _<_}
 use native.Mathlib.Decide.{decLt}
 use native.Mathlib.Omega.{arith}
-use lib.ListN.{length}
+use lib.ListN.{length, getD}
 use Rattle.laws.specs.Checks.{all}
 use Rattle.laws.proofs.Bytes.{Bytes, bytes-none, bytes-cons}
 use Rattle.laws.proofs.Tests.{and-both}
@@ -69,6 +69,17 @@ bytes-chars (b ∷ l) h =
     let s = h zero in
     let e : 16 * (b / 16) + b % 16 ≡ b = omega arith in
     rw (half (b / 16) (omega arith) .1, half (b % 16) (omega arith) .1, e, bytes-chars l (λ k. h (suc k)))
+
+-- a byte is what its two characters stand for, whatever stands before and behind them
+pub bytes-each : (s : List ℕ) (i : ℕ) → 2 * i + 1 < length s → getD (bytesOf s) i 0 ≡ 16 * valueOf (getD s (2 * i) 0) + valueOf (getD s (2 * i + 1) 0)
+unfolding bytesOf
+bytes-each [] i h = absurd (omega arith)
+bytes-each (x ∷ []) i h = absurd (omega arith)
+bytes-each (x ∷ (y ∷ s)) zero h = refl
+bytes-each (x ∷ (y ∷ s)) (suc i) h =
+    let a : 2 * suc i ≡ suc (suc (2 * i)) = omega arith in
+    let b : 2 * suc i + 1 ≡ suc (suc (2 * i + 1)) = omega arith in
+    rw (b, a) (bytes-each s i (omega arith))
 
 -- two digits are a byte
 pub bytes-low : (s : List ℕ) → allDigits s ≡ true → Bytes (bytesOf s)

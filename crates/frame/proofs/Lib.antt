@@ -1,10 +1,10 @@
 pub mod Ranges
 pub mod Chars
 pub mod FrameLaid
-pub mod Body
 pub mod Answers
 pub mod Capitals
 pub mod Coding
-pub mod Totals
+pub mod Body
 pub mod Passing
 pub mod RoundTrip
+pub mod Totals

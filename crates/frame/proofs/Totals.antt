@@ -1,21 +1,24 @@
--- The total that technicians look at is 0 exactly when the checksum is right (document 02, request 4): a sum is its last byte and the sum of those
+-- The total that technicians look at is 0 exactly when the checksum is right (document 02, request 4): a sum is the last byte and the sum of those
 -- before it. Assumes nothing.
-use mathlib.Core.Path.{_≡_, refl, sym, ap, _∙_}
+use mathlib.Core.Path.{_≡_, refl, sym, _∙_}
 use mathlib.Core.Logic.{_↔_}
-use mathlib.Core.List.{List, [], _∷_, _++_}
+use mathlib.Core.List.{List, [], _∷_}
 use mathlib.Core.Bool.{true}
-use Prim.Native.Nat.{ℕ, _+_, _-_, _%_, _<_}
+use Prim.Native.Nat.{ℕ, _+_, _-_, _%_, _≤_, _<_}
 use native.Mathlib.Decide.{ℕ-discrete}
 use native.Mathlib.Numerals.{sub-one}
 use native.Mathlib.Omega.{arith}
-use lib.ListN.{length, getD, length-append}
-use lib.Seq.{take-at, getD-at}
+use lib.ListN.{length, getD}
 use lib.Dec.{eqb}
-use borrow.Author.Tests.{eq-eqb, ne-eqb}
+use borrow.Author.Tests.{eq-eqb, ne-eqb, eqb-true}
 use Rattle.laws.specs.Bytes.{slice, sumOf}
-use Rattle.frame.specs.Digits.{allDigits, checksumOf}
+use Rattle.laws.proofs.Bytes.{Bytes}
+use Rattle.frame.specs.Digits.{allDigits, bytesOf, checksumOf}
 use Rattle.frame.specs.Apart.{inner, bodyOf, contentsOf, sumOk}
+use Rattle.frame.specs.Built.{frameOf}
 use Rattle.frame.proofs.Coding.{bytes-low}
+use Rattle.frame.proofs.Passing.{passed-digits, passed-sum}
+use Rattle.frame.proofs.RoundTrip.{frame-passes}
 
 sum-last : (b : List ℕ) → sumOf b ≡ sumOf (slice 0 (length b - 1) b) + getD b (length b - 1) 0
 unfolding sumOf slice
@@ -29,16 +32,7 @@ pub total-exactly : (b : List ℕ)
 unfolding checksumOf
 total-exactly b = (λ e. (omega arith, omega (arith, sum-last b)), λ z. omega (arith, sum-last b))
 
--- so the body of what is built adds up to 0, whatever its contents
-pub built-total : (c : List ℕ) → sumOf (c ++ (checksumOf c ∷ [])) % 256 ≡ 0
-unfolding slice
-built-total c =
-    let b = c ++ (checksumOf c ∷ []) in
-    let n : length b - 1 ≡ length c = omega (arith, length-append c (checksumOf c ∷ [])) in
-    let last = getD-at c (checksumOf c) [] 0 (length c) refl ∙ ap checksumOf (sym (take-at c (checksumOf c ∷ []) (length c) refl)) in
-    total-exactly b .0 (rw n last) .1
-
--- and for a frame whose characters are digits, to look for 0 is to test what is defined
+-- so for a frame whose characters are digits, to look for 0 is to test what is defined
 pub sum-by-total : (f : List ℕ) → allDigits (inner f) ≡ true → sumOk f ≡ eqb (sumOf (bodyOf f) % 256) 0
 unfolding sumOk contentsOf bodyOf
 sum-by-total f d = go (ℕ-discrete (sumOf (bodyOf f) % 256) 0)
@@ -49,3 +43,16 @@ sum-by-total f d = go (ℕ-discrete (sumOf (bodyOf f) % 256) 0)
     go : Dec (sumOf (bodyOf f) % 256 ≡ 0) → sumOk f ≡ eqb (sumOf (bodyOf f) % 256) 0
     go (yes z) = eq-eqb _ _ (total-exactly (bodyOf f) .1 (byte, z)) ∙ sym (eq-eqb _ 0 z)
     go (no n) = ne-eqb _ _ (λ e. n (total-exactly (bodyOf f) .0 e .1)) ∙ sym (ne-eqb _ 0 n)
+
+-- the same read off the line, with no name in between that could go wrong together with `sumOk`
+pub sum-on-line : (f : List ℕ) → allDigits (slice 1 (length f - 3) f) ≡ true → sumOk f ≡ eqb (sumOf (bytesOf (slice 1 (length f - 3) f)) % 256) 0
+unfolding inner bodyOf
+sum-on-line = sum-by-total
+
+-- and what is built adds up to 0, read so
+pub built-on-line : (c : List ℕ) → Bytes c → 2 ≤ length c → length c ≤ 132
+    → sumOf (bytesOf (slice 1 (length (frameOf c) - 3) (frameOf c))) % 256 ≡ 0
+unfolding inner
+built-on-line c bytes low high =
+    let p = frame-passes c bytes low high in
+    eqb-true _ 0 (sym (sum-on-line (frameOf c) (passed-digits (frameOf c) p)) ∙ passed-sum (frameOf c) p)
