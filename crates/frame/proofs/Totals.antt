@@ -44,7 +44,7 @@ sum-by-total f d = go (ℕ-discrete (sumOf (bodyOf f) % 256) 0)
     go (yes z) = eq-eqb _ _ (total-exactly (bodyOf f) .1 (byte, z)) ∙ sym (eq-eqb _ 0 z)
     go (no n) = ne-eqb _ _ (λ e. n (total-exactly (bodyOf f) .0 e .1)) ∙ sym (ne-eqb _ 0 n)
 
--- the same read off the line, with no name in between that could go wrong together with `sumOk`
+-- the same read off the line: the body has no name here that could go wrong together with `sumOk`
 pub sum-on-line : (f : List ℕ) → allDigits (slice 1 (length f - 3) f) ≡ true → sumOk f ≡ eqb (sumOf (bytesOf (slice 1 (length f - 3) f)) % 256) 0
 unfolding inner bodyOf
 sum-on-line = sum-by-total
