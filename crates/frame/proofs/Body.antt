@@ -1,4 +1,4 @@
--- The lengths of a frame's parts, and the work array that holds its decoded body. Assumes nothing.
+-- The lengths of a frame's parts, the characters that its contents are read from, and the work array that holds its decoded body. Assumes nothing.
 use mathlib.Core.Path.{_≡_, refl, ap, _∙_}
 use mathlib.Core.List.{List, [], _∷_}
 use Prim.Native.Nat.{ℕ, _+_, _-_, _*_, _/_, _≤_, _<_}
@@ -53,14 +53,15 @@ module _ (f : List ℕ) (low : 9 ≤ length f) where
     unfolding bodyOf
     is-body = is ∙ ap (λ (s : List ℕ). lay z 0 (bytesOf s)) chars-are
 
+    work-take : (n : ℕ) → n ≤ length (bodyOf f) → take n work ≡ take n (bodyOf f)
+    work-take n h = let e = length-body in rw is-body (lay-take z (bodyOf f) (omega arith) n h)
+
     pub work-contents : take ((length f - 3) / 2 - 1) work ≡ contentsOf f
     unfolding contentsOf slice
-    work-contents =
-        let h = length-body in
-        rw (is-body, ← length-body) (lay-take z (bodyOf f) (omega arith) (length (bodyOf f) - 1) (omega arith))
+    work-contents = rw (← length-body) (work-take (length (bodyOf f) - 1) (omega arith))
 
     pub work-body : take ((length f - 3) / 2 - 1 + 1) work ≡ bodyOf f
     work-body =
         let h = length-body in
         let e : (length f - 3) / 2 - 1 + 1 ≡ length (bodyOf f) = omega arith in
-        rw (e, is-body) (lay-take z (bodyOf f) (omega arith) (length (bodyOf f)) (omega arith) ∙ take-all (length (bodyOf f)) (bodyOf f) (omega arith))
+        rw e (work-take (length (bodyOf f)) (omega arith) ∙ take-all (length (bodyOf f)) (bodyOf f) (omega arith))

@@ -32,9 +32,10 @@ pub total-exactly : (b : List ℕ)
 unfolding checksumOf
 total-exactly b = (λ e. (omega arith, omega (arith, sum-last b)), λ z. omega (arith, sum-last b))
 
--- so for a frame whose characters are digits, to look for 0 is to test what is defined
-pub sum-by-total : (f : List ℕ) → allDigits (inner f) ≡ true → sumOk f ≡ eqb (sumOf (bodyOf f) % 256) 0
-unfolding sumOk contentsOf bodyOf
+-- so for a frame whose characters are digits, to look for 0 is to test what is defined. The body stands here as it is read off the line, with no name
+-- that could go wrong together with `sumOk`
+pub sum-by-total : (f : List ℕ) → allDigits (slice 1 (length f - 3) f) ≡ true → sumOk f ≡ eqb (sumOf (bytesOf (slice 1 (length f - 3) f)) % 256) 0
+unfolding sumOk contentsOf bodyOf inner
 sum-by-total f d = go (ℕ-discrete (sumOf (bodyOf f) % 256) 0)
   where
     byte : getD (bodyOf f) (length (bodyOf f) - 1) 0 < 256
@@ -44,15 +45,10 @@ sum-by-total f d = go (ℕ-discrete (sumOf (bodyOf f) % 256) 0)
     go (yes z) = eq-eqb _ _ (total-exactly (bodyOf f) .1 (byte, z)) ∙ sym (eq-eqb _ 0 z)
     go (no n) = ne-eqb _ _ (λ e. n (total-exactly (bodyOf f) .0 e .1)) ∙ sym (ne-eqb _ 0 n)
 
--- the same read off the line: the body has no name here that could go wrong together with `sumOk`
-pub sum-on-line : (f : List ℕ) → allDigits (slice 1 (length f - 3) f) ≡ true → sumOk f ≡ eqb (sumOf (bytesOf (slice 1 (length f - 3) f)) % 256) 0
-unfolding inner bodyOf
-sum-on-line = sum-by-total
-
 -- and what is built adds up to 0, read so
-pub built-on-line : (c : List ℕ) → Bytes c → 2 ≤ length c → length c ≤ 132
+pub built-total : (c : List ℕ) → Bytes c → 2 ≤ length c → length c ≤ 132
     → sumOf (bytesOf (slice 1 (length (frameOf c) - 3) (frameOf c))) % 256 ≡ 0
 unfolding inner
-built-on-line c bytes low high =
+built-total c bytes low high =
     let p = frame-passes c bytes low high in
-    eqb-true _ 0 (sym (sum-on-line (frameOf c) (passed-digits (frameOf c) p)) ∙ passed-sum (frameOf c) p)
+    eqb-true _ 0 (sym (sum-by-total (frameOf c) (passed-digits (frameOf c) p)) ∙ passed-sum (frameOf c) p)

@@ -70,6 +70,7 @@ module _ (c : tie.After-total-of) where
 
   decided : (t : Bool) → eqb (c .total-of .result) 0 ≡ t
       → apart (frameAt sized) (outAt sized) ≡ cond t (written (outAt sized) (contentsOf (frameAt sized))) (refuse (outAt sized) 6)
+  unfolding inner bodyOf
   decided t e =
       let digits = right-digits (decoded .before) in
       let total : c .total-of .result ≡ sumOf (take (count decoded + 1) (decoded .bytes-of .result)) % 256 = c .total-of .ensures in
