@@ -13,8 +13,11 @@ use libc::STDIN_FILENO;
 // One byte more than an image has.
 const LONGER: usize = IMAGE_LENGTH + 1;
 
+// About twice what the cases take. Cases past it would not be read, and their lines of `stdout` would be missed.
+const CASES_ROOM: usize = 131072;
+
 fn main() {
-    let mut text = io::large_buffer();
+    let mut text = [0u8; CASES_ROOM];
     let n = io::read_full(STDIN_FILENO, &mut text);
     let mut image = [0u8; LONGER];
     steps::lines(&text[..n], &mut image);
