@@ -4,8 +4,9 @@ use mathlib.Core.Path.{_≡_, refl, ap, _∙_}
 use mathlib.Core.List.{List, _++_}
 use mathlib.Core.Bool.{true}
 use Prim.Native.Nat.{ℕ, _+_, _≤_, _<_}
-use lib.ListN.{length, take, drop}
+use lib.ListN.{length, getD, take, drop}
 use lib.Dec.{lit<}
+use Rattle.laws.specs.Bytes.{slice}
 use Rattle.laws.specs.Checks.{within}
 use Rattle.laws.proofs.Tests.{and-both}
 use Rattle.frame.specs.Apart.{contentsOf}
@@ -13,7 +14,7 @@ use Rattle.frame.specs.Built.{frameOf}
 use Rattle.image.specs.declared.cell.Cell.{Cell}
 use Rattle.image.specs.declared.cell.Named.the-variants as Named′
 use Rattle.image.specs.Version.{Version}
-use Rattle.image.specs.Cell.{when, errorsNamed}
+use Rattle.image.specs.Cell.{offset, extent, when, errorsNamed}
 use Rattle.image.specs.Usable.{usable, address}
 use Rattle.image.proofs.UsableFacts.{facts}
 use Rattle.image.proofs.Stores.{shown-back}
@@ -38,12 +39,20 @@ pub record Replies (a : BuffersAfter) (reply : List ℕ) : Type 0 where
   pub done-is : a .number ≡ 0
   pub reply-is : replyIn a ≡ reply
 
+-- what a frame shows it shows as the image has it, whatever that is and whenever it was stored
+pub shows-as-stored : (ear : Hearing) → Lawful ear → (v : Version) (g m : List ℕ) (e : ℕ) (d : Cell) → ear (address m) g ≡ Accepted e Show d
+    → usable v m ≡ true → (out : List ℕ) → 269 ≤ length out
+    → Replies (served ear v g m out) (frameOf (take (2 + e) (contentsOf g) ++ slice (offset d) (extent d (getD m (offset d) 0)) m))
+unfolding answered
+shows-as-stored ear ok v g m e d shows u out room =
+    let a : answered ear v g m ≡ done v (Accepted e Show d) (contentsOf g) m = ap (λ (r : Verdict). done v r (contentsOf g) m) shows in
+    record {
+      done-is = rw (served-is ear v g m out u room, a);
+      reply-is = reply-seen ear ok v g m out u room ∙ rw a;
+    }
+
 module _ (ear : Hearing) (ok : Lawful ear) (v : Version) (f g m : List ℕ) (u : usable v m ≡ true) (e e′ k : ℕ) (d : Cell)
     (stores : ear (address m) f ≡ Accepted e (Store k) d) (shows : ear (address m) g ≡ Accepted e′ Show d) where
-  shown : answered ear v g (answered ear v f m .image) ≡ done v (Accepted e′ Show d) (contentsOf g) (answered ear v f m .image)
-  unfolding answered
-  shown = ap (λ (r : Verdict). done v r (contentsOf g) (answered ear v f m .image)) (ap (λ (a : ℕ). ear a g) (answered-address ear ok v f m u) ∙ shows)
-
   back : says v Show d (answered ear v f m .image) ≡ drop k (contentsOf f)
   back =
       let fit = accepted-fits ear ok f m e (Store k) d stores .act in
@@ -52,12 +61,9 @@ module _ (ear : Hearing) (ok : Lawful ear) (v : Version) (f g m : List ℕ) (u :
   pub reads-back : (out out′ : List ℕ) → 269 ≤ length out → 269 ≤ length out′
       → Replies (served ear v g (served ear v f m out .image) out′) (frameOf (take (2 + e′) (contentsOf g) ++ drop k (contentsOf f)))
   reads-back out out′ room room′ =
-      let u′ = answered-usable ear ok v f m u in
-      rw (served-is ear v f m out u room)
-      (record {
-        done-is = rw (served-is ear v g _ out′ u′ room′, shown);
-        reply-is = reply-seen ear ok v g (answered ear v f m .image) out′ u′ room′ ∙ rw (shown, back);
-      })
+      let still = ap (λ (a : ℕ). ear a g) (answered-address ear ok v f m u) ∙ shows in
+      rw (served-is ear v f m out u room, ← back)
+      (shows-as-stored ear ok v g (answered ear v f m .image) e′ d still (answered-usable ear ok v f m u) out′ room′)
 
 -- ---- the five pairs
 
