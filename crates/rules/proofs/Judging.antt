@@ -1,18 +1,18 @@
 -- What the code that judges a body cites: the fourteen commands, reserve bytes and rising rows, as a loop or a match meets them. Assumes nothing.
 use mathlib.Core.Path.{_≡_, refl, sym, ap, _∙_}
-use mathlib.Core.Bool.{true, false, _&&_, and-true, and-false}
+use mathlib.Core.Bool.{Bool, true, false, _&&_, and-true, and-false}
 use mathlib.Core.List.{List, [], _∷_}
 use Prim.Native.Nat.{ℕ, suc, _+_, _-_, _*_, _≤_, _<_}
 use native.Mathlib.Numerals.{add-one}
 use native.Mathlib.Omega.{arith}
 use lib.ListN.{length, getD, drop, length-drop}
-use lib.Dec.{ltb}
-use borrow.Author.Tests.{eq-eqb, ne-eqb, lt-ltb, le-ltb}
+use lib.Signed.{ltZ}
+use borrow.Author.Tests.{eq-eqb, ne-eqb}
 use Rattle.laws.proofs.Walks.{next, next2}
 use Rattle.image.specs.declared.cell.Named.the-variants as Named
 use Rattle.image.specs.Cell.{when, errorsNamed}
 use Rattle.rules.specs.declared.rule.Found.the-variants.{Nothing}
-use Rattle.rules.specs.Rules.{Command, byte, ruleOf, rowsNamed, zeroFrom, blank, warmth, rises}
+use Rattle.rules.specs.Rules.{Command, byte, ruleOf, rowsNamed, zeroFrom, blank, degrees, rises}
 
 -- ---- the fourteen commands
 
@@ -84,18 +84,22 @@ module _ (s : List ℕ) (i : ℕ) where
       let f : i + 2 + 2 ≡ i + 4 = omega arith in
       next2 s i h1 ∙ ap (λ (l : List ℕ). getD s i 0 ∷ (getD s (i + 1) 0 ∷ l)) (rw (← e, ← f) (next2 s (i + 2) h2))
 
-  two-rows : i + 3 < length s → rises (drop i s) ≡ (ltb (warmth (getD s i 0)) (warmth (getD s (i + 3) 0)) && rises (drop (i + 3) s))
+  -- the temperature at index i means fewer degrees than that of the next row
+  abbrev pub colder : Bool
+  colder = ltZ (degrees (getD s i 0)) (degrees (getD s (i + 3) 0))
+
+  pub two-rows : i + 3 < length s → rises (drop i s) ≡ (colder && rises (drop (i + 3) s))
   unfolding rises
   two-rows h =
       let e : i + 3 + 1 ≡ i + 4 = omega arith in
       let n : drop (i + 3) s ≡ getD s (i + 3) 0 ∷ drop (i + 4) s = rw (← e) (next s (i + 3) h) in
       rw (four h, n)
 
-  pub rises-next : i + 3 < length s → warmth (getD s i 0) < warmth (getD s (i + 3) 0) → rises (drop (i + 3) s) ≡ rises (drop i s)
-  rises-next h l = rw (two-rows h, lt-ltb _ _ l)
+  pub rises-next : i + 3 < length s → colder ≡ true → rises (drop (i + 3) s) ≡ rises (drop i s)
+  rises-next h l = rw (two-rows h, l)
 
-  pub rises-fails : i + 3 < length s → warmth (getD s (i + 3) 0) ≤ warmth (getD s i 0) → rises (drop i s) ≡ false
-  rises-fails h l = rw (two-rows h, le-ltb _ _ l)
+  pub rises-fails : i + 3 < length s → colder ≡ false → rises (drop i s) ≡ false
+  rises-fails h l = rw (two-rows h, l)
 
   pub rises-done : length s ≤ i + 3 → rises (drop i s) ≡ true
   rises-done h = few-rows (drop i s) (omega (arith, length-drop i s))

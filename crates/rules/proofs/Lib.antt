@@ -1,8 +1,9 @@
 pub mod Naming
 pub mod Fit
 pub mod Numbers
-pub mod Warmth
+pub mod Degrees
 pub mod Judging
+pub mod Rising
 pub mod Following
 pub mod FirstCheck
 pub mod Parts

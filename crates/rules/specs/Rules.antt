@@ -4,7 +4,9 @@ use mathlib.Core.List.{List, [], _∷_}
 use mathlib.Core.Bool.{Bool, true, cond, _&&_, _||_}
 use Prim.Native.Nat.{ℕ, zero, suc, _+_, _-_, _*_, _%_}
 use lib.ListN.{length, getD, drop}
-use lib.Dec.{ltb, eqb}
+use lib.Dec.{leb, eqb}
+use lib.IntN.{ℤ, pos, _-ℤ_}
+use lib.Signed.{ltZ}
 use Rattle.laws.specs.Checks.{within}
 use Rattle.image.specs.declared.cell.Cell.{Cell}
 use Rattle.image.specs.declared.cell.Cell.the-variants as Cells
@@ -69,9 +71,9 @@ constantsOk c =
     blank c 17 20 && (blank c 23 26 && (blank c 29 32 && (blank c 35 38 && (blank c 43 46 && (blank c 49 68
     && (blank c 71 72 && (blank c 75 78 && within 1 13 (byte c 7))))))))
 
--- a temperature byte is two's complement, 128..255 below 0..127: this puts its meaning's order into plain numbers
-unfoldable pub warmth : ℕ → ℕ
-warmth b = (b + 128) % 256
+-- what a temperature byte means, -127..+128: up to 128 it is itself, a larger one is itself less 256
+unfoldable pub degrees : ℕ → ℤ
+degrees b = cond (leb b 128) (pos b) (pos b -ℤ pos 256)
 
 -- 62: rows of three bytes, the first a temperature, which rises strictly
 unfoldable pub rises : List ℕ → Bool
@@ -79,7 +81,7 @@ rises [] = true
 rises (t ∷ []) = true
 rises (t ∷ (h ∷ [])) = true
 rises (t ∷ (h ∷ (l ∷ []))) = true
-rises (t ∷ (h ∷ (l ∷ (u ∷ rows)))) = ltb (warmth t) (warmth u) && rises (u ∷ rows)
+rises (t ∷ (h ∷ (l ∷ (u ∷ rows)))) = ltZ (degrees t) (degrees u) && rises (u ∷ rows)
 
 -- 77: second, minute, hour, weekday, day, month, year, and two bytes of 0
 unfoldable pub clockOk : List ℕ → Bool

@@ -4,8 +4,9 @@ use crate::rule::Values;
 ghost use mathlib.Core.Path.{_≡_};
 ghost use Prim.Native.Nat.{_+_, _≤_};
 ghost use lib.ListN.{length, drop};
+ghost use lib.Signed.{ltZ};
 ghost use Rattle.laws.specs.Checks.{within};
-ghost use Rattle.rules.specs.Rules.{blank, warmth, rises, constantsOk, clockOk, modeOk, valuesOk};
+ghost use Rattle.rules.specs.Rules.{blank, degrees, rises, constantsOk, clockOk, modeOk, valuesOk};
 
 fn is_within(low: u8, high: u8, x: u8) -> bool
     ensures { λ r. ⌜ r ≡ within low high x ⌝ }
@@ -62,11 +63,12 @@ fn mode_ok(body: &[u8]) -> bool
     (mode == 0) | (mode == 255)
 }
 
-// A temperature byte, moved so that plain order is the order of temperatures.
-fn warmth(b: u8) -> u8
-    ensures { λ r. ⌜ r ≡ warmth b ⌝ }
+// The first of two temperature bytes means fewer degrees. Counted on from 81h, which is -127, past FFh to 80h, which is +128, bytes stand in the
+// order of their degrees.
+fn is_colder(a: u8, b: u8) -> bool
+    ensures { λ r. ⌜ r ≡ ltZ (degrees a) (degrees b) ⌝ }
 {
-    if b < 128 { b + 128 } else { b - 128 }
+    (a as u16 + 127) % 256 < (b as u16 + 127) % 256
 }
 
 // The temperatures rise from row to row; rows of three bytes start at byte 5.
@@ -76,7 +78,7 @@ fn rows_rise(body: &[u8]) -> bool
 {
     let mut i = 4;
     while i + 3 < body.len() {
-        if warmth(body[i + 3]) <= warmth(body[i]) {
+        if !is_colder(body[i], body[i + 3]) {
             return false;
         }
         i += 3;

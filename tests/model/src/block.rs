@@ -363,7 +363,7 @@ fn write_errors(image: &mut [u8], data: &[u8], reply: &mut Reply) -> Result<(), 
     if usize::from(*count) != k {
         return Err(Refusal::Item);
     }
-    let temperatures = rows.chunks_exact(ROW_BYTES).map(|row| row[0] as i8);
+    let temperatures = rows.chunks_exact(ROW_BYTES).map(|row| degrees(row[0]));
     if !temperatures.is_sorted_by(|earlier, later| earlier < later) {
         return Err(Refusal::Value);
     }
@@ -374,6 +374,15 @@ fn write_errors(image: &mut [u8], data: &[u8], reply: &mut Reply) -> Result<(), 
     table[1 + rows.len()..].fill(0);
     reply.put(&[*number]);
     Ok(())
+}
+
+/// Document 02, wish 5: a temperature byte up to 128 is itself, a larger one
+/// is itself less 256. So they go from -127 to +128.
+fn degrees(temperature: u8) -> i16 {
+    match temperature {
+        0..=128 => i16::from(temperature),
+        129..=255 => i16::from(temperature) - 256,
+    }
 }
 
 fn read_errors(image: &[u8], data: &[u8], reply: &mut Reply) -> Result<(), Refusal> {

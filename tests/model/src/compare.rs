@@ -9,7 +9,7 @@ use std::sync::mpsc;
 use std::thread;
 use std::time::Duration;
 
-use crate::coverage::Coverage;
+use crate::coverage::{Came, Coverage};
 use crate::probe::{Probe, Record, Records};
 use crate::{desk, desk_streams, probe_scripts};
 
@@ -100,9 +100,17 @@ fn try_desk(options: &Options, number: usize, coverage: &mut Coverage) -> Result
     let seed = options.seed;
     let (name, input) = desk_streams::stream(seed, number);
     let expected = desk::lines(&input);
+    let fixed = desk_streams::is_fixed(number);
     if input.len() <= desk::INPUT_MAX {
         for (line, piece) in expected.iter().zip(desk::pieces(&input)) {
-            coverage.count('D', piece, number_in(line, 0), line);
+            coverage.count(&Came {
+                call: 'D',
+                drawn: !fixed,
+                input: piece,
+                number: number_in(line, 0),
+                line,
+                reply: line.strip_prefix("0 ").unwrap_or_default().as_bytes(),
+            });
         }
     }
     let about = |line: usize| match desk::pieces(&input).nth(line) {
@@ -119,10 +127,18 @@ fn try_probe(options: &Options, number: usize, coverage: &mut Coverage) -> Resul
     let (name, script) = probe_scripts::script(seed, number);
     let mut expected = Vec::new();
     let mut probe = Probe::new();
+    let fixed = probe_scripts::is_fixed(number);
     for record in Records::new(&script) {
         if let Some(line) = probe.step(record) {
             if let Some((call, input)) = call_of(record) {
-                coverage.count(call, &input, number_in(&line, 1), &line);
+                coverage.count(&Came {
+                    call,
+                    drawn: !fixed,
+                    input: &input,
+                    number: number_in(&line, 1),
+                    line: &line,
+                    reply: probe.reply(),
+                });
             }
             expected.push(line);
         }

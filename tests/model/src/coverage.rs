@@ -1,6 +1,7 @@
 //! Counts of what the differential test reached, and what it must reach.
 
 mod checksum;
+mod temperatures;
 
 use std::collections::BTreeMap;
 use std::io::{self, Write};
@@ -35,6 +36,20 @@ const SERVED: [(char, bool, &str); 4] = [
     ('S', true, "serve, a small one"),
 ];
 
+/// A call as it came up in a run.
+pub struct Came<'a> {
+    /// Its letter; D for a piece given to the desk program.
+    pub call: char,
+    /// Whether it is from a stream or script of the seed and no fixed call.
+    pub drawn: bool,
+    pub input: &'a [u8],
+    pub number: u8,
+    /// The model's line for it.
+    pub line: &'a str,
+    /// If it served a frame, the reply without its last two bytes.
+    pub reply: &'a [u8],
+}
+
 /// Something that is counted; the first value is the call's letter.
 #[derive(Clone, Copy, PartialEq, Eq, PartialOrd, Ord)]
 enum Thing {
@@ -54,6 +69,13 @@ enum Thing {
     /// A frame that a wrong test would judge otherwise, by that test's place
     /// in `WRONG`, and whether it is a right frame.
     Misjudged(char, usize, bool),
+    /// A table of temperatures, by whether the call was drawn and by its kind's
+    /// place in `temperatures::KINDS`.
+    Table(char, bool, usize),
+    /// A table that a wrong rule would judge otherwise, by whether the call was
+    /// drawn, by that rule's place in `temperatures::WRONG`, and by whether the
+    /// table was accepted.
+    Misread(char, bool, usize, bool),
 }
 
 /// How often each thing that the test must reach was reached.
@@ -75,9 +97,14 @@ impl Coverage {
         coverage
     }
 
-    /// Counts a call by its letter, what it was given, its number and the
-    /// model's line for it.
-    pub fn count(&mut self, call: char, input: &[u8], number: u8, line: &str) {
+    pub fn count(&mut self, came: &Came) {
+        let &Came {
+            call,
+            input,
+            number,
+            line,
+            ..
+        } = came;
         self.add(Thing::Number(call, number));
         if matches!(call, 'D' | 'S' | 'T') {
             self.count_letters(call, number, input);
@@ -85,6 +112,7 @@ impl Coverage {
         }
         if matches!(call, 'D' | 'S') {
             self.count_command(call, number, input);
+            self.count_temperatures(came);
         }
         let seen = (call, input.to_vec(), line.to_string());
         if let Some((_, count)) = self.fixed.get_mut(&seen) {
@@ -163,6 +191,8 @@ impl Coverage {
         self.print_letters(out)?;
         self.print_sums(out)?;
         self.print_misjudged(out)?;
+        self.print_tables(out)?;
+        self.print_misread(out)?;
         let fixed = self.fixed.values();
         let wanted: usize = fixed.clone().map(|(rules, _)| rules.len()).sum();
         let came: usize = fixed.map(|(rules, count)| rules.len().min(*count)).sum();
@@ -312,6 +342,7 @@ fn wanted() -> Vec<(Thing, String)> {
     wanted.extend(wanted_of_commands());
     wanted.extend(wanted_of_letters());
     wanted.extend(wanted_of_sums());
+    wanted.extend(temperatures::wanted());
     wanted
 }
 

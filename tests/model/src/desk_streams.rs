@@ -5,8 +5,8 @@
 use crate::desk::INPUT_MAX;
 use crate::fixed;
 use crate::streams::{
-    ask, clock, constants, either_case, errors, frame, in_either_case, part, piece, session,
-    with_other_sums, Rng, CLOCK, COMMANDS, PARTS, TABLES,
+    any_errors, ask, clock, constants, either_case, errors, frame, in_either_case, limit_errors,
+    part, piece, session, with_other_sums, Rng, CLOCK, COMMANDS, PARTS, TABLES,
 };
 
 type Case = (&'static str, fn(&mut Rng) -> Vec<u8>);
@@ -67,6 +67,11 @@ const CASES: [Case; 38] = [
 /// How many streams have a purpose of their own.
 pub fn purposeful() -> usize {
     CASES.len() + fixed::streams().len() + COMMANDS.len()
+}
+
+/// Whether the stream of that number is one of fixed calls.
+pub fn is_fixed(number: usize) -> bool {
+    (CASES.len()..CASES.len() + fixed::streams().len()).contains(&number)
 }
 
 /// A stream and what it is for.
@@ -326,15 +331,12 @@ fn error_counts(rng: &mut Rng) -> Vec<u8> {
     stream
 }
 
+/// Document 01's rows and wish 5; the longest draw stays below 65,536 bytes.
 fn temperatures(rng: &mut Rng) -> Vec<u8> {
     let mut stream = Vec::new();
-    let limits = [0x00, 0x01, 0x14, 0x7E, 0x7F, 0x80, 0x81, 0xFE, 0xFF];
-    for first in limits {
-        for second in limits {
-            let data = [1, 2, first, 0, 5, second, 255, 255];
-            stream.extend(ask(1, 62, &data));
-            stream.extend(ask(1, 64, &[1]));
-        }
+    for data in limit_errors(1) {
+        stream.extend(ask(1, 62, &data));
+        stream.extend(ask(1, 64, &[1]));
     }
     // A stop in the rise at each place of a full table.
     for row in 1..21 {
@@ -342,6 +344,10 @@ fn temperatures(rng: &mut Rng) -> Vec<u8> {
         data[2 + 3 * row] = data[2 + 3 * (row - 1)];
         stream.extend(ask(1, 62, &data));
         stream.extend(ask(1, 63, &[8]));
+    }
+    for _ in 0..350 {
+        stream.extend(ask(1, 62, &any_errors(rng, 3)));
+        stream.extend(ask(1, 63, &[3]));
     }
     stream
 }

@@ -5,6 +5,7 @@
 
 mod checksum;
 mod small_letters;
+pub mod temperatures;
 
 use std::sync::LazyLock;
 
@@ -71,8 +72,8 @@ pub struct Session {
     pub name: &'static str,
     pub address: u8,
     pub image_length: usize,
-    /// A byte changed before the first step, and what it is changed to.
-    pub spoiled: Option<(usize, u8)>,
+    /// Bytes changed before the first step, and what each is changed to.
+    pub changed: Vec<(usize, u8)>,
     pub output: usize,
     pub steps: Vec<Step>,
 }
@@ -83,7 +84,7 @@ impl Session {
             name,
             address: 1,
             image_length: IMAGE_BYTES,
-            spoiled: None,
+            changed: Vec::new(),
             output: SERVE_ROOM,
             steps,
         }
@@ -99,8 +100,13 @@ impl Session {
         self
     }
 
-    fn spoiled(mut self, offset: usize, value: u8) -> Self {
-        self.spoiled = Some((offset, value));
+    fn spoiled(self, offset: usize, value: u8) -> Self {
+        self.holding(offset, &[value])
+    }
+
+    /// What stands in the image before the first step, and where.
+    fn holding(mut self, offset: usize, bytes: &[u8]) -> Self {
+        self.changed.extend((offset..).zip(bytes.iter().copied()));
         self
     }
 
@@ -111,7 +117,7 @@ impl Session {
 
     /// Its frames, if the desk program can run all of its steps.
     pub fn stream(&self) -> Option<Vec<u8>> {
-        let runs = self.spoiled.is_none()
+        let runs = self.changed.is_empty()
             && self.address == 1
             && self.image_length == IMAGE_BYTES
             && self.output == SERVE_ROOM
@@ -140,22 +146,26 @@ impl Session {
         let mut image = [0; IMAGE_ROOM];
         image[..5].copy_from_slice(b"IZK\x00\x01");
         image[5] = self.address;
-        if let Some((offset, value)) = self.spoiled {
+        for &(offset, value) in &self.changed {
             image[offset] = value;
         }
+        // Taken anew only when a step stores something, for it takes long.
+        let mut image_digest = digest(&image[..self.image_length]);
         let mut lines = Vec::new();
         for step in &self.steps {
             for (offset, bytes) in &step.stored {
                 image[*offset..offset + bytes.len()].copy_from_slice(bytes);
             }
+            if !step.stored.is_empty() {
+                image_digest = digest(&image[..self.image_length]);
+            }
             let mut output = [FILL; OUTPUT_ROOM];
             output[..step.wrote.len()].copy_from_slice(&step.wrote);
             let (letter, number, length) = (step.letter, step.number, step.wrote.len());
-            let image = || digest(&image[..self.image_length]);
             let output = digest(&output[..self.output]);
             lines.push(match letter {
-                'S' => format!("S {number} {length} {} {output}", image()),
-                'F' => format!("F {number} {}", image()),
+                'S' => format!("S {number} {length} {image_digest} {output}"),
+                'F' => format!("F {number} {image_digest}"),
                 'H' => format!("H {number} 0 0"),
                 _ => format!("{letter} {number} {length} {output}"),
             });
@@ -227,6 +237,7 @@ fn all_sessions() -> Vec<Session> {
     ];
     sessions.extend(small_letters::sessions());
     sessions.extend(checksum::sessions());
+    sessions.extend(temperatures::sessions());
     sessions
 }
 

@@ -123,6 +123,13 @@ impl Probe {
         }
     }
 
+    /// What stands in the output before the first 0Dh; after a frame was
+    /// served, the reply without its last two bytes.
+    pub fn reply(&self) -> &[u8] {
+        let mut parts = self.output.split(|&byte| byte == b'\r');
+        parts.next().unwrap_or_default()
+    }
+
     /// Carries out a record and gives the line it prints, if it prints one.
     pub fn step(&mut self, record: Record) -> Option<String> {
         let image = &mut self.image[..self.image_length];

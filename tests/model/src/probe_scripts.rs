@@ -4,8 +4,8 @@
 use crate::fixed::{self, Session, FILL};
 use crate::probe::SCRIPT_MAX;
 use crate::streams::{
-    ask, clock, constants, either_case, errors, frame, in_either_case, part, piece, session,
-    with_other_sums, Rng, COMMANDS,
+    any_errors, ask, clock, constants, either_case, errors, frame, in_either_case, limit_errors,
+    older_errors, part, piece, session, with_other_sums, Rng, COMMANDS, TEMPERATURES,
 };
 
 const IMAGE_BYTES: usize = 23_753;
@@ -16,7 +16,7 @@ const TABLES: usize = 1225;
 
 type Case = (&'static str, fn(&mut Rng) -> Script);
 
-const CASES: [Case; 22] = [
+const CASES: [Case; 23] = [
     ("empty", |_| Script::default()),
     ("rows at other addresses", other_addresses),
     ("fresh images", fresh_images),
@@ -39,6 +39,7 @@ const CASES: [Case; 22] = [
     ("a record past 65,536 bytes", |_| filled(SCRIPT_MAX + 1)),
     ("records after 65,536 bytes", records_past_end),
     ("other checksums", other_checksums),
+    ("error table temperatures", temperatures),
 ];
 
 /// How many scripts `broken` has.
@@ -114,6 +115,11 @@ pub fn purposeful() -> usize {
     CASES.len() + fixed::sessions().len() + BROKEN
 }
 
+/// Whether the script of that number is one of fixed calls.
+pub fn is_fixed(number: usize) -> bool {
+    (CASES.len()..CASES.len() + fixed::sessions().len()).contains(&number)
+}
+
 /// A script and what it is for.
 pub fn script(seed: u64, number: usize) -> (String, Vec<u8>) {
     // Kept apart from the desk streams of the same seed.
@@ -137,7 +143,7 @@ pub fn fixed_calls(session: &Session) -> Vec<u8> {
     script
         .fresh(session.address)
         .image_length(session.image_length);
-    if let Some((offset, value)) = session.spoiled {
+    for &(offset, value) in &session.changed {
         script.poke(offset, value);
     }
     for step in &session.steps {
@@ -513,6 +519,36 @@ fn other_checksums(rng: &mut Rng) -> Script {
     script
 }
 
+/// Wish 5: tables as they were stored before it, and writes over them; the
+/// longest draw stays below 65,536 bytes.
+fn temperatures(rng: &mut Rng) -> Script {
+    let mut script = Script::default();
+    script.fresh(1);
+    for number in 1..=8 {
+        let count = rng.between(2, 21);
+        let older = older_errors(rng, number, count);
+        let place = ERRORS + 64 * usize::from(number - 1);
+        for (byte, &value) in older[1..].iter().enumerate() {
+            script.poke(place + byte, value);
+        }
+        script.serve(&ask(1, 63, &[number]));
+        script.serve(&ask(1, 64, &[number]));
+        script.serve(&ask(1, 62, &older));
+        script.serve(&ask(1, 63, &[number]));
+    }
+    script.held(1);
+    for data in limit_errors(1) {
+        script.serve(&ask(1, 62, &data)).serve(&ask(1, 64, &[1]));
+    }
+    for _ in 0..350 {
+        let number = rng.between(1, 8);
+        script.serve(&ask(1, 62, &any_errors(rng, number)));
+        script.serve(&ask(1, 63, &[number]));
+    }
+    script.show_all();
+    script
+}
+
 /// One call whose frame brings the script to this size.
 fn filled(size: usize) -> Script {
     let mut script = Script::default();
@@ -589,7 +625,10 @@ fn old_bytes(script: &mut Script, rng: &mut Rng) {
         script.poke(first + rng.below(count), rng.byte());
     }
     for table in 0..8 {
-        script.poke(ERRORS + 64 * table, rng.between(0, 21));
+        let count = ERRORS + 64 * table;
+        script
+            .poke(count, rng.between(0, 21))
+            .poke(count + 1, rng.pick(&TEMPERATURES));
     }
     for table in 0..16 {
         let word = WORDS + 2 * table;

@@ -1,8 +1,10 @@
 //! The rows and rules the block is held to, one by one.
 
 use crate::block::{build, fresh, held_parts, serve, take_apart, Refusal, IMAGE_BYTES};
+use crate::fixed::temperatures::RISING;
 use crate::streams::{
-    ask, constants, either_case, errors, frame, part, piece, session, Rng, FIELDS,
+    ask, constants, either_case, errors, frame, older_errors, part, piece, rung, session, Rng,
+    FIELDS,
 };
 use crate::{desk, desk_streams, fixed, probe, probe_scripts};
 
@@ -108,11 +110,45 @@ fn error_rows_by_temperature() {
         (0xFF, 0x00, 0),
         (0x00, 0xFF, 11),
         (0x14, 0x14, 11),
-        (0x80, 0x7F, 0),
-        (0x7F, 0x80, 11),
+        (0x80, 0x7F, 11),
+        (0x7F, 0x80, 0),
+        (0x80, 0x81, 11),
+        (0x81, 0x80, 0),
     ] {
         let data = [1, 2, first, 0, 1, second, 0, 2];
         assert_eq!(number(&mut image_at(1), 62, &data), outcome);
+    }
+}
+
+#[test]
+fn every_pair_of_temperatures_rises_as_written() {
+    let mut image = image_at(1);
+    for (earlier, &first) in RISING.iter().enumerate() {
+        for (later, &second) in RISING.iter().enumerate() {
+            let data = [1, 2, first, 0, 1, second, 0, 2];
+            let outcome = if earlier < later { 0 } else { 11 };
+            assert_eq!(number(&mut image, 62, &data), outcome, "{data:02X?}");
+        }
+    }
+}
+
+#[test]
+fn temperatures_are_all_on_the_rungs_written() {
+    for (place, &temperature) in RISING.iter().enumerate() {
+        assert_eq!(usize::from(rung(temperature)), place);
+    }
+}
+
+#[test]
+fn error_tables_are_drawn_good_and_older_ones_are_not() {
+    let mut rng = Rng::new(1, 13);
+    for count in (2..=21).cycle().take(2_000) {
+        let good = errors(&mut rng, 1, count);
+        assert_eq!(number(&mut image_at(1), 62, &good), 0, "{good:02X?}");
+        let older = older_errors(&mut rng, 1, count);
+        assert_eq!((older[1], older[2]), (count, 0x80));
+        assert!(older[2..].chunks(3).is_sorted_by_key(|row| row[0] as i8));
+        assert_eq!(number(&mut image_at(1), 62, &older), 11, "{older:02X?}");
     }
 }
 

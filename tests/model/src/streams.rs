@@ -3,9 +3,9 @@
 //!
 //! Frames are written here without the help of `block`, and constants follow
 //! the published list of fields rather than the list of reserve bytes, so a
-//! slip in the model shows up as a request that is refused without need.
-
-use std::collections::BTreeSet;
+//! slip in the model shows up as a request that is refused without need. For
+//! the same reason temperatures are put in order by their place in the rise,
+//! and not by the number that their byte stands for.
 
 /// The commands served, in rising order.
 pub const COMMANDS: [u8; 14] = [50, 51, 53, 54, 55, 59, 60, 61, 62, 63, 64, 76, 77, 78];
@@ -14,6 +14,8 @@ pub const COMMANDS: [u8; 14] = [50, 51, 53, 54, 55, 59, 60, 61, 62, 63, 64, 76, 
 pub const TABLES: [u8; 10] = [0, 1, 2, 8, 9, 10, 11, 12, 18, 19];
 /// Part numbers at and around the limits.
 pub const PARTS: [u8; 4] = [0, 1, 11, 12];
+/// Temperatures around 80h, the highest, and 81h, the lowest, and around 00h.
+pub const TEMPERATURES: [u8; 9] = [0x7E, 0x7F, 0x80, 0x81, 0x82, 0xFE, 0xFF, 0x00, 0x01];
 
 /// The characters on either side of the three ranges of digits.
 pub const BESIDE_DIGITS: [u8; 6] = [47, 58, 64, 71, 96, 103];
@@ -160,18 +162,109 @@ pub fn part(rng: &mut Rng, table: u8, part: u8) -> Vec<u8> {
     [vec![table, part], rows].concat()
 }
 
+/// The place of a temperature in their rise, from 0 for 81h over FFh and then
+/// 00h to 255 for 80h (document 02, wish 5).
+pub fn rung(temperature: u8) -> u8 {
+    temperature.wrapping_sub(0x81)
+}
+
+/// So many temperatures that rise, with many of those at the limits.
+fn rising(rng: &mut Rng, count: u8) -> Vec<u8> {
+    let mut temperatures = Vec::new();
+    while temperatures.len() < usize::from(count) {
+        let temperature = match rng.percent(40) {
+            true => rng.pick(&TEMPERATURES),
+            false => rng.byte(),
+        };
+        if !temperatures.contains(&temperature) {
+            temperatures.push(temperature);
+        }
+    }
+    temperatures.sort_by_key(|&temperature| rung(temperature));
+    temperatures
+}
+
+/// Data of a command 62 with a row for each of these temperatures.
+fn error_table(rng: &mut Rng, number: u8, temperatures: &[u8]) -> Vec<u8> {
+    let mut data = vec![number, temperatures.len() as u8];
+    for &temperature in temperatures {
+        data.extend([temperature, rng.byte(), rng.byte()]);
+    }
+    data
+}
+
+/// Data of commands 62 for a table: the temperatures at the limits, and 14h
+/// from document 01, each alone and with each of them behind it.
+pub fn limit_errors(number: u8) -> Vec<Vec<u8>> {
+    let limits = [&TEMPERATURES[..], &[0x14]].concat();
+    let mut all = Vec::new();
+    for &first in &limits {
+        all.push(vec![number, 1, first, 0, 5]);
+        for &second in &limits {
+            all.push(vec![number, 2, first, 0, 5, second, 255, 255]);
+        }
+    }
+    all
+}
+
 /// Data of a good command 62 with `count` rows, of which there may be none
 /// or more than the rule allows.
 pub fn errors(rng: &mut Rng, number: u8, count: u8) -> Vec<u8> {
-    let mut temperatures = BTreeSet::new();
-    while temperatures.len() < usize::from(count) {
-        temperatures.insert(rng.byte() as i8);
+    let temperatures = rising(rng, count);
+    error_table(rng, number, &temperatures)
+}
+
+/// Data of a command 62 whose temperatures may stop rising: a limit stands in
+/// any row, two rows are alike or have changed places, or all are in order by
+/// another meaning.
+fn unsettled_errors(rng: &mut Rng, number: u8, count: u8) -> Vec<u8> {
+    let mut temperatures = rising(rng, count);
+    if let Some(last) = temperatures.len().checked_sub(1) {
+        let any = rng.below(last + 1);
+        let row = rng.pick(&[0, any, last]);
+        let beside = row.checked_sub(1).unwrap_or(last.min(1));
+        match rng.below(7) {
+            0 => temperatures[row] = rng.pick(&[0x80, 0x81]),
+            1 => temperatures[row] = rng.pick(&TEMPERATURES),
+            2 => temperatures[row] = temperatures[beside],
+            3 => temperatures[beside] = temperatures[row],
+            4 => temperatures.swap(row, beside),
+            5 => temperatures.sort_by_key(|&temperature| temperature as i8),
+            _ => temperatures.sort(),
+        }
     }
-    let mut data = vec![number, count];
-    for temperature in temperatures {
-        data.extend([temperature as u8, rng.byte(), rng.byte()]);
+    error_table(rng, number, &temperatures)
+}
+
+/// Data of a command 62 as blocks took it before wish 5: 80h is the lowest
+/// and stands first.
+pub fn older_errors(rng: &mut Rng, number: u8, count: u8) -> Vec<u8> {
+    let mut temperatures = rising(rng, count);
+    if !temperatures.contains(&0x80) {
+        temperatures.pop();
+        temperatures.push(0x80);
     }
-    data
+    temperatures.sort_by_key(|&temperature| temperature as i8);
+    error_table(rng, number, &temperatures)
+}
+
+/// Data of a command 62 with any number of rows, three in ten of them surely
+/// good.
+pub fn any_errors(rng: &mut Rng, number: u8) -> Vec<u8> {
+    let count = row_count(rng);
+    match rng.percent(30) {
+        true => errors(rng, number, count),
+        false => unsettled_errors(rng, number, count),
+    }
+}
+
+/// How many rows an error table has: as often few or the most as any number.
+fn row_count(rng: &mut Rng) -> u8 {
+    match rng.below(4) {
+        0 => rng.between(1, 3),
+        1 => 21,
+        _ => rng.between(1, 21),
+    }
 }
 
 /// Data of a good command 77.
@@ -220,7 +313,10 @@ fn data(rng: &mut Rng, command: u8) -> Vec<u8> {
         61 => vec![table_number(rng)],
         62 => {
             let count = rng.between(0, 22);
-            errors(rng, channel, count)
+            match rng.percent(25) {
+                true => unsettled_errors(rng, channel, count),
+                false => errors(rng, channel, count),
+            }
         }
         76 => vec![rng.pick(&[0, 255, 0, 255, 1])],
         77 => clock(rng),
@@ -291,10 +387,14 @@ fn around_part(rng: &mut Rng) -> Vec<Request> {
 fn around_errors(rng: &mut Rng) -> Vec<Request> {
     let number = channel_number(rng);
     let beside = number.wrapping_add(rng.pick(&[1, 255]));
-    let long = rng.between(1, 21);
+    let long = row_count(rng);
     let short = rng.between(1, long);
+    let unsettled = row_count(rng);
     vec![
         (62, errors(rng, number, long)),
+        (63, vec![number]),
+        (64, vec![number]),
+        (62, unsettled_errors(rng, number, unsettled)),
         (63, vec![number]),
         (64, vec![number]),
         (62, errors(rng, number, short)),

@@ -60,8 +60,13 @@ pub const CARRIES_KEPT: &str = "carries kept";
 
 /// The body of a frame that comes to the test.
 pub fn body(frame: &[u8]) -> Vec<u8> {
+    bytes(&frame[1..frame.len() - 2])
+}
+
+/// The bytes that these characters, all of them digits, stand for.
+pub fn bytes(digits: &[u8]) -> Vec<u8> {
     let half = |c| char::from(c).to_digit(16).expect("5 was not given");
-    frame[1..frame.len() - 2]
+    digits
         .chunks_exact(2)
         .map(|pair| (half(pair[0]) * 16 + half(pair[1])) as u8)
         .collect()

@@ -4,6 +4,7 @@ use Prim.Native.Nat.{_+_, _-_, _≤_}
 use native.Mathlib.Omega.{arith}
 use lib.ListN.{length, drop}
 use borrow.Author.Needs.{needs}
+use borrow.Author.Tests.{not-true, not-false}
 use Rattle.rules.specs.Rules.{rises}
 use Rattle.rules.proofs.Judging.{rises-next, rises-fails, rises-done}
 use Rattle.rules.proofs.values.rows_rise.Statement.{statement}
@@ -21,26 +22,22 @@ loop-holds c = (omega arith, refl)
 add-loop : tie.Need-add-loop Inv-loop μ-loop
 add-loop c = omega arith
 
-add-warmth : tie.Need-add-warmth Inv-loop μ-loop
-add-warmth c = omega arith
+shared-slice-read-is-colder : tie.Need-shared-slice-read-is-colder Inv-loop μ-loop
+shared-slice-read-is-colder c = omega arith
 
-shared-slice-read-warmth : tie.Need-shared-slice-read-warmth Inv-loop μ-loop
-shared-slice-read-warmth c = omega arith
+add-is-colder : tie.Need-add-is-colder Inv-loop μ-loop
+add-is-colder c = omega arith
 
-warmth-requires : tie.Need-warmth-requires Inv-loop μ-loop
-warmth-requires c κs = search needs
+shared-slice-read-is-colder-2 : tie.Need-shared-slice-read-is-colder-2 Inv-loop μ-loop
+shared-slice-read-is-colder-2 c = omega arith
 
-shared-slice-read-warmth-2 : tie.Need-shared-slice-read-warmth-2 Inv-loop μ-loop
-shared-slice-read-warmth-2 c = omega arith
-
-warmth-requires-2 : tie.Need-warmth-requires-2 Inv-loop μ-loop
-warmth-requires-2 c κs = search needs
+is-colder-requires : tie.Need-is-colder-requires Inv-loop μ-loop
+is-colder-requires c κs = search needs
 
 returns : tie.Need-returns Inv-loop μ-loop
 returns c =
-    let t = c .before .before .before in
-    let l = t .before .before .before .loop in
-    sym (rises-fails _ (l .i) (omega arith) (omega (arith, t .warmth .ensures, c .before .warmth2 .ensures))) ∙ l .inv .1
+    let l = c .before .before .before .before .before .loop in
+    sym (rises-fails _ (l .i) (omega arith) (sym (c .before .is-colder .ensures) ∙ not-true _ (c .if1 .taken))) ∙ l .inv .1
 
 add-i : tie.Need-add-i Inv-loop μ-loop
 add-i c = omega arith
@@ -50,9 +47,8 @@ loop-less c = omega arith
 
 loop-again : tie.Need-loop-again Inv-loop μ-loop
 loop-again c =
-    let t = c .before .before .before in
-    let l = t .before .before .before .loop in
-    (omega arith, rises-next _ (l .i) (omega arith) (omega (arith, t .warmth .ensures, c .before .warmth2 .ensures)) ∙ l .inv .1)
+    let l = c .before .before .before .before .before .loop in
+    (omega arith, rises-next _ (l .i) (omega arith) (sym (c .before .is-colder .ensures) ∙ not-false _ (c .if1 .left)) ∙ l .inv .1)
 
 returns-2 : tie.Need-returns-2 Inv-loop μ-loop
 returns-2 c = sym (rises-done _ (c .before .loop .i) (omega arith)) ∙ c .before .loop .inv .1
@@ -65,11 +61,10 @@ rows-rise-spec =
     μ-loop
     loop-holds
     add-loop
-    add-warmth
-    shared-slice-read-warmth
-    warmth-requires
-    shared-slice-read-warmth-2
-    warmth-requires-2
+    shared-slice-read-is-colder
+    add-is-colder
+    shared-slice-read-is-colder-2
+    is-colder-requires
     returns
     add-i
     loop-less
