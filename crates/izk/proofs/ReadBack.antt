@@ -1,5 +1,5 @@
--- What is written reads back identically: any cell, and so each of document 01's five pairs of a write and a read, 51 and 50, 53 and 54, 59 and
--- 60, 62 and 63, 77 and 78. Assumes nothing.
+-- What a frame shows is what the image has; so what is written reads back identically: any cell, and each of document 01's five pairs of a write and a
+-- read, 51 and 50, 53 and 54, 59 and 60, 62 and 63, 77 and 78. Assumes nothing.
 use mathlib.Core.Path.{_≡_, refl, ap, _∙_}
 use mathlib.Core.List.{List, _++_}
 use mathlib.Core.Bool.{true}
@@ -21,12 +21,11 @@ use Rattle.image.proofs.Stores.{shown-back}
 use Rattle.rules.specs.declared.rule.Act.the-variants.{Show, Store}
 use Rattle.rules.specs.declared.rule.Found.the-variants as F
 use Rattle.rules.specs.declared.rule.Rule.{Rule}
-use Rattle.rules.specs.declared.verdict.Verdict.{Verdict}
 use Rattle.rules.specs.declared.verdict.Verdict.the-variants.{Accepted}
 use Rattle.rules.specs.Rules.{byte, rowsNamed, namedBy, commands, ruleOf}
 use Rattle.rules.proofs.Naming.{when-cell}
 use Rattle.command.specs.Act.{says}
-use Rattle.command.specs.Reply.{done, BuffersAfter, replyIn}
+use Rattle.command.specs.Reply.{BuffersAfter, replyIn}
 use Rattle.izk.specs.Heard.{answered, Hearing, Lawful}
 use Rattle.izk.specs.Block.{served}
 use Rattle.izk.proofs.Serving.{Accepts, answered-address, answered-usable, served-is, reply-seen, address-stays, zero-is-accepted}
@@ -45,11 +44,7 @@ pub shows-as-stored : (ear : Hearing) → Lawful ear → (v : Version) (g m : Li
     → Replies (served ear v g m out) (frameOf (take (2 + e) (contentsOf g) ++ slice (offset d) (extent d (getD m (offset d) 0)) m))
 unfolding answered
 shows-as-stored ear ok v g m e d shows u out room =
-    let a : answered ear v g m ≡ done v (Accepted e Show d) (contentsOf g) m = ap (λ (r : Verdict). done v r (contentsOf g) m) shows in
-    record {
-      done-is = rw (served-is ear v g m out u room, a);
-      reply-is = reply-seen ear ok v g m out u room ∙ rw a;
-    }
+    record { done-is = rw (served-is ear v g m out u room, shows); reply-is = reply-seen ear ok v g m out u room ∙ rw shows }
 
 module _ (ear : Hearing) (ok : Lawful ear) (v : Version) (f g m : List ℕ) (u : usable v m ≡ true) (e e′ k : ℕ) (d : Cell)
     (stores : ear (address m) f ≡ Accepted e (Store k) d) (shows : ear (address m) g ≡ Accepted e′ Show d) where

@@ -88,18 +88,12 @@ module _ (s : List ℕ) (i : ℕ) where
   abbrev pub colder : Bool
   colder = ltZ (degrees (getD s i 0)) (degrees (getD s (i + 3) 0))
 
-  pub two-rows : i + 3 < length s → rises (drop i s) ≡ (colder && rises (drop (i + 3) s))
+  pub rises-by : i + 3 < length s → (t : Bool) → colder ≡ t → rises (drop i s) ≡ (t && rises (drop (i + 3) s))
   unfolding rises
-  two-rows h =
-      let e : i + 3 + 1 ≡ i + 4 = omega arith in
-      let n : drop (i + 3) s ≡ getD s (i + 3) 0 ∷ drop (i + 4) s = rw (← e) (next s (i + 3) h) in
-      rw (four h, n)
-
-  pub rises-next : i + 3 < length s → colder ≡ true → rises (drop (i + 3) s) ≡ rises (drop i s)
-  rises-next h l = rw (two-rows h, l)
-
-  pub rises-fails : i + 3 < length s → colder ≡ false → rises (drop i s) ≡ false
-  rises-fails h l = rw (two-rows h, l)
+  rises-by h t e =
+      let f : i + 3 + 1 ≡ i + 4 = omega arith in
+      let n : drop (i + 3) s ≡ getD s (i + 3) 0 ∷ drop (i + 4) s = rw (← f) (next s (i + 3) h) in
+      rw (four h, n, e)
 
   pub rises-done : length s ≤ i + 3 → rises (drop i s) ≡ true
   rises-done h = few-rows (drop i s) (omega (arith, length-drop i s))

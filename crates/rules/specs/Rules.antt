@@ -71,7 +71,7 @@ constantsOk c =
     blank c 17 20 && (blank c 23 26 && (blank c 29 32 && (blank c 35 38 && (blank c 43 46 && (blank c 49 68
     && (blank c 71 72 && (blank c 75 78 && within 1 13 (byte c 7))))))))
 
--- what a temperature byte means, -127..+128: up to 128 it is itself, a larger one is itself less 256
+-- what a temperature byte means (document 02, request 5), -127..+128: 80h is the highest, and not the lowest as in two's complement
 unfoldable pub degrees : ℕ → ℤ
 degrees b = cond (leb b 128) (pos b) (pos b -ℤ pos 256)
 

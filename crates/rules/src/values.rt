@@ -63,8 +63,8 @@ fn mode_ok(body: &[u8]) -> bool
     (mode == 0) | (mode == 255)
 }
 
-// The first of two temperature bytes means fewer degrees. Counted on from 81h, which is -127, past FFh to 80h, which is +128, bytes stand in the
-// order of their degrees.
+// Whether a means fewer degrees than b. Adding 127 and dropping the carry numbers the bytes from 0 to 255 in the order of their degrees: 81h (-127)
+// first, FFh and 00h in the middle, 80h (+128) last.
 fn is_colder(a: u8, b: u8) -> bool
     ensures { λ r. ⌜ r ≡ ltZ (degrees a) (degrees b) ⌝ }
 {

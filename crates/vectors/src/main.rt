@@ -13,7 +13,7 @@ use libc::STDIN_FILENO;
 // One byte more than an image has.
 const LONGER: usize = IMAGE_LENGTH + 1;
 
-// About twice what the cases take. Cases past it would not be read, and their lines of `stdout` would be missed.
+// More than the cases take, for which `io::large_buffer` is too small. What lay past it would not be read, and the output would be short of `stdout`.
 const CASES_ROOM: usize = 131072;
 
 fn main() {

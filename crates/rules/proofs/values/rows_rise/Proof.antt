@@ -1,12 +1,13 @@
 -- The invariant: the rows that remain, from index i on, decide as all did. Assumes nothing.
 use mathlib.Core.Path.{_≡_, refl, sym, _∙_}
+use mathlib.Core.Bool.{true, false}
 use Prim.Native.Nat.{_+_, _-_, _≤_}
 use native.Mathlib.Omega.{arith}
 use lib.ListN.{length, drop}
 use borrow.Author.Needs.{needs}
 use borrow.Author.Tests.{not-true, not-false}
 use Rattle.rules.specs.Rules.{rises}
-use Rattle.rules.proofs.Judging.{rises-next, rises-fails, rises-done}
+use Rattle.rules.proofs.Judging.{rises-by, rises-done}
 use Rattle.rules.proofs.values.rows_rise.Statement.{statement}
 use Rattle.rules.proofs.values.rows_rise.Tie as tie
 
@@ -37,7 +38,7 @@ is-colder-requires c κs = search needs
 returns : tie.Need-returns Inv-loop μ-loop
 returns c =
     let l = c .before .before .before .before .before .loop in
-    sym (rises-fails _ (l .i) (omega arith) (sym (c .before .is-colder .ensures) ∙ not-true _ (c .if1 .taken))) ∙ l .inv .1
+    sym (rises-by _ (l .i) (omega arith) false (sym (c .before .is-colder .ensures) ∙ not-true _ (c .if1 .taken))) ∙ l .inv .1
 
 add-i : tie.Need-add-i Inv-loop μ-loop
 add-i c = omega arith
@@ -48,7 +49,7 @@ loop-less c = omega arith
 loop-again : tie.Need-loop-again Inv-loop μ-loop
 loop-again c =
     let l = c .before .before .before .before .before .loop in
-    (omega arith, rises-next _ (l .i) (omega arith) (sym (c .before .is-colder .ensures) ∙ not-false _ (c .if1 .left)) ∙ l .inv .1)
+    (omega arith, sym (rises-by _ (l .i) (omega arith) true (sym (c .before .is-colder .ensures) ∙ not-false _ (c .if1 .left))) ∙ l .inv .1)
 
 returns-2 : tie.Need-returns-2 Inv-loop μ-loop
 returns-2 c = sym (rises-done _ (c .before .loop .i) (omega arith)) ∙ c .before .loop .inv .1
