@@ -3,7 +3,7 @@
 use mathlib.Core.Path.{_≡_, refl, ap, _∙_}
 use mathlib.Core.List.{List, _++_}
 use mathlib.Core.Bool.{true}
-use Prim.Native.Nat.{ℕ, _+_, _≤_, _<_}
+use Prim.Native.Nat.{ℕ, _+_, _-_, _*_, _≤_, _<_}
 use lib.ListN.{length, getD, take, drop}
 use lib.Dec.{lit<}
 use Rattle.laws.specs.Bytes.{slice}
@@ -12,6 +12,7 @@ use Rattle.laws.proofs.Tests.{and-both}
 use Rattle.frame.specs.Apart.{contentsOf}
 use Rattle.frame.specs.Built.{frameOf}
 use Rattle.image.specs.declared.cell.Cell.{Cell}
+use Rattle.image.specs.declared.cell.Cell.the-variants as Cells
 use Rattle.image.specs.declared.cell.Named.the-variants as Named′
 use Rattle.image.specs.Version.{Version}
 use Rattle.image.specs.Cell.{offset, extent, when, errorsNamed}
@@ -20,14 +21,16 @@ use Rattle.image.proofs.UsableFacts.{facts}
 use Rattle.image.proofs.Stores.{shown-back}
 use Rattle.rules.specs.declared.rule.Act.the-variants.{Show, Store}
 use Rattle.rules.specs.declared.rule.Found.the-variants as F
+use Rattle.rules.specs.declared.rule.Names.the-variants as N
 use Rattle.rules.specs.declared.rule.Rule.{Rule}
 use Rattle.rules.specs.declared.verdict.Verdict.the-variants.{Accepted}
 use Rattle.rules.specs.Rules.{byte, rowsNamed, namedBy, commands, ruleOf}
 use Rattle.rules.proofs.Naming.{when-cell}
 use Rattle.command.specs.Act.{says}
 use Rattle.command.specs.Reply.{BuffersAfter, replyIn}
-use Rattle.izk.specs.Heard.{answered, Hearing, Lawful}
+use Rattle.izk.specs.Heard.{heard, answered, Hearing, Lawful}
 use Rattle.izk.specs.Block.{served}
+use Rattle.izk.proofs.Hearing.{heard-lawful}
 use Rattle.izk.proofs.Serving.{Accepts, answered-address, answered-usable, served-is, reply-seen, address-stays, zero-is-accepted}
 use Rattle.izk.proofs.Changes.{accepted-fits, accepted-leaves}
 
@@ -45,6 +48,24 @@ pub shows-as-stored : (ear : Hearing) → Lawful ear → (v : Version) (g m : Li
 unfolding answered
 shows-as-stored ear ok v g m e d shows u out room =
     record { done-is = rw (served-is ear v g m out u room, shows); reply-is = reply-seen ear ok v g m out u room ∙ rw shows }
+
+-- so a 63 that the block serves returns error table n, its count and as many rows as that says, from where it stands in the image
+pub error-table-shown : (v : Version) (g m out : List ℕ) (n : ℕ) → byte (contentsOf g) 2 ≡ 63 → byte (contentsOf g) 3 ≡ n
+    → served heard v g m out .number ≡ 0
+    → Replies (served heard v g m out) (frameOf (take 3 (contentsOf g) ++ slice (713 + 64 * (n - 1)) (1 + 3 * getD m (713 + 64 * (n - 1)) 0) m))
+unfolding ruleOf commands errorsNamed when
+error-table-shown v g m out n is-63 is-n z =
+    let (u, room, x) = zero-is-accepted heard heard-lawful v g m out z in
+    let (r, found) = heard-lawful .known (address m) g (x .verdict) in
+    let b = heard-lawful .follows (address m) g r (x .verdict) found in
+    let f = rw is-63 at found in
+    let s : r .names ≡ N.ErrorTable = cc in
+    let e : x .echo ≡ 1 = cc in
+    let a : x .act ≡ Show = cc in
+    let named : errorsNamed n ≡ Named′.Cell (x .cell) = rw (s, is-n) at (b .names) in
+    let cell = when-cell (within 1 8 n) (Cells.Errors (n - 1)) (x .cell) named .1 in
+    let shows : heard (address m) g ≡ Accepted 1 Show (x .cell) = rw (e, a) at (x .verdict) in
+    rw (← cell) at (shows-as-stored heard heard-lawful v g m 1 (x .cell) shows u out room)
 
 module _ (ear : Hearing) (ok : Lawful ear) (v : Version) (f g m : List ℕ) (u : usable v m ≡ true) (e e′ k : ℕ) (d : Cell)
     (stores : ear (address m) f ≡ Accepted e (Store k) d) (shows : ear (address m) g ≡ Accepted e′ Show d) where

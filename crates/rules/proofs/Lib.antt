@@ -4,6 +4,7 @@ pub mod Numbers
 pub mod Degrees
 pub mod Judging
 pub mod Rising
+pub mod Unjudged
 pub mod Following
 pub mod FirstCheck
 pub mod Parts
