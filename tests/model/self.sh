@@ -94,8 +94,8 @@ planted '80h served before 81h' '^  at       piece :013E010280000581FFFFBA' desk
 planted '00h refused behind FFh' '^  at       piece :013E0102FF000500FFFFBC' desk - "sed '149s/^0 :013E01C0\$/11/'"
 # There follow 20 full tables for error table 8, which stays empty: each stops at another row and is read behind that.
 planted 'the last of 21 rows not judged' '^  line     259$' desk - "sed '258{/^0 :013F0800B8\$/{n;s/^11\$/0 :013E08B9/}}'"
-# In the probe's, a fresh image and eight older tables come first, four lines for each: read, signed, refused when written, read. A question for
-# held parts stands between them and the limits.
+# In the probe's a line of the fresh image comes first, then eight older tables, four lines for each: read, signed, refused when written, read. A
+# question for held parts stands between them and the limits.
 planted 'an older table refused but written' '^FAILED probe script [0-9]+ \(error table temperatures\)' probe - "sed '4s/^S 11 0 ./&9/'"
 planted 'an older table not read' '^  at       record S :013F01BF' probe - "sed '4{/^S 11 0 /{n;s/^S 0 [0-9]* /S 11 0 /}}'"
 planted '80h refused behind 7Fh by the probe' '^  at       record S :013E01027F000580FFFFBC' probe - "sed '62{/^S 0 15 /{n;s/^S 0 11 /S 11 0 /}}'"

@@ -379,8 +379,8 @@ fn faults_of_the_frame(good: &[u8]) -> [Step; 4] {
     ]
 }
 
-/// Bytes that are no temperatures: values in no order, and limits that are
-/// still crossed by 80h and 81h.
+/// Bytes that are no temperatures: values in no order, and limits that 7Fh,
+/// 80h and 81h still cross.
 fn other_commands() -> Vec<Step> {
     let mut steps = vec![
         serve("a mask", b":0133804C\r\n")
