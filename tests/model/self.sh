@@ -87,18 +87,14 @@ planted 'a wrong checksum taken apart' '^  at       record T :0132CE' probe - "s
 # Of P1's contents with each of the 256 checksums, the 206th is P1, and before them the fresh image has a line.
 planted 'one checksum of 256 not taken apart' '^FAILED probe script [0-9]+ \(every checksum, taken apart\)' probe - "sed '206{/^T 6 /{n;s/^T 0 2 /T 6 0 /}}'"
 # The desk's temperatures begin with the limits, each alone and then before each of them, and a signature of error table 1 behind each: the 15th
-# is 7Fh before 80h, the 26th 80h before 80h, the 27th 80h before 81h and the 75th, of 110, FFh before 00h.
+# of 110 is 7Fh before 80h, and the 27th 80h before 81h.
 planted '80h refused behind 7Fh' '^  at       piece :013E01027F000580FFFFBC' desk - "sed '29s/^0 :013E01C0\$/11/'"
-planted '80h served before 80h' '^  at       piece :013E010280000580FFFFBB' desk - "sed '50{/^0 :014001/{n;s/^11\$/0 :013E01C0/}}'"
 planted '80h served before 81h' '^  at       piece :013E010280000581FFFFBA' desk - "sed '52{/^0 :014001/{n;s/^11\$/0 :013E01C0/}}'"
-planted '00h refused behind FFh' '^  at       piece :013E0102FF000500FFFFBC' desk - "sed '149s/^0 :013E01C0\$/11/'"
 # There follow 20 full tables for error table 8, which stays empty: each stops at another row and is read behind that.
 planted 'the last of 21 rows not judged' '^  line     259$' desk - "sed '258{/^0 :013F0800B8\$/{n;s/^11\$/0 :013E08B9/}}'"
-# In the probe's a line of the fresh image comes first, then eight older tables, four lines for each: read, signed, refused when written, read. A
-# question for held parts stands between them and the limits.
+# In the probe's a line of the fresh image comes first, then eight older tables, four lines for each: read, signed, refused when written, read.
 planted 'an older table refused but written' '^FAILED probe script [0-9]+ \(error table temperatures\)' probe - "sed '4s/^S 11 0 ./&9/'"
 planted 'an older table not read' '^  at       record S :013F01BF' probe - "sed '4{/^S 11 0 /{n;s/^S 0 [0-9]* /S 11 0 /}}'"
-planted '80h refused behind 7Fh by the probe' '^  at       record S :013E01027F000580FFFFBC' probe - "sed '62{/^S 0 15 /{n;s/^S 0 11 /S 11 0 /}}'"
 planted 'a bad end of the probe' 'ended with exit status: 3$' probe 3 cat
 echo "self: $passed passed, $failed failed"
 [ "$failed" -eq 0 ]
