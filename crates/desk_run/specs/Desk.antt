@@ -10,6 +10,7 @@ use Rattle.reorder.specs.Reorder.{final}
 use Rattle.text.specs.Cut.{pieces}
 use Rattle.image.specs.Version.{Version, current, imageLength}
 use Rattle.image.specs.Fresh.{fresh}
+use Rattle.rules.specs.declared.switch.Switch.the-variants.{Unsealed}
 use Rattle.command.specs.Reply.{replyIn}
 use Rattle.izk.specs.Heard.{heard}
 use Rattle.izk.specs.Block.{served}
@@ -18,12 +19,12 @@ use Rattle.desk_run.specs.Line.{lineOf}
 
 -- ---- the whole text
 
--- a piece served with an output of its own: what is printed for it, and the image after it
+-- a piece served unsealed with an output of its own: what is printed for it, and the image after it
 unfoldable pub printed : Version → List ℕ → List ℕ → List ℕ
-printed v m p = let a = served heard v p m (zeros 269) in lineOf (a .number) (replyIn a)
+printed v m p = let a = served (heard Unsealed) v p m (zeros 269) in lineOf (a .number) (replyIn a)
 
 unfoldable pub left : Version → List ℕ → List ℕ → List ℕ
-left v m p = served heard v p m (zeros 269) .image
+left v m p = served (heard Unsealed) v p m (zeros 269) .image
 
 -- the pieces in turn, on one image
 unfoldable pub transcript : Version → List ℕ → List (List ℕ) → List ℕ

@@ -7,6 +7,7 @@ ghost use Rattle.image.specs.Version.{current};
 ghost use Rattle.desk_run.specs.Desk.{printed, left};
 use crate::line::put_line;
 use output::Cursor;
+use rules::Switch;
 
 pub(crate) fn put_piece(start: Cursor, text: &mut [u8], m: &mut [u8], piece: &[u8]) -> Cursor
     requires { ⌜ start .at + 300 ≤ length (now text) ⌝ }
@@ -14,7 +15,7 @@ pub(crate) fn put_piece(start: Cursor, text: &mut [u8], m: &mut [u8], piece: &[u
         × (now (m .exit) ≡ left current (now (m .entry)) (now (piece .entry))) ⌝ }
 {
     let mut reply = [0u8; 269];
-    let answer = izk::serve(piece, m, &mut reply);
+    let answer = izk::serve(piece, Switch::Unsealed, m, &mut reply);
     let n = answer.len;
     put_line(start, text, answer.number, &reply[..n])
 }

@@ -20,6 +20,7 @@ use Rattle.image.specs.Signature.{signature}
 use Rattle.image.proofs.Signatures.{signature-word}
 use Rattle.rules.specs.declared.rule.Act.{Act}
 use Rattle.rules.specs.declared.rule.Act.the-variants.{Show, Sign, Store}
+use Rattle.rules.specs.declared.switch.Switch.{Switch}
 use Rattle.rules.specs.declared.verdict.Verdict.{Verdict}
 use Rattle.rules.specs.declared.verdict.Verdict.the-variants.{Refused, Accepted}
 use Rattle.rules.proofs.Following.{accepted-passes}
@@ -33,38 +34,39 @@ use Rattle.izk.proofs.OneOutcome.{serve-one-outcome}
 
 -- ---- a frame and its capital form
 
-heard-alike : (a : ℕ) (f : List ℕ) → heard a (capitalForm f) ≡ heard a f
+heard-alike : (s : Switch) (a : ℕ) (f : List ℕ) → heard s a (capitalForm f) ≡ heard s a f
 unfolding heard
-heard-alike a f = rw (capital-checks f, capital-contents f)
+heard-alike s a f = rw (capital-checks f, capital-contents f)
 
 -- number, length, output and image
-pub served-alike : (v : Version) (f m out : List ℕ) → served heard v (capitalForm f) m out ≡ served heard v f m out
+pub served-alike : (s : Switch) (v : Version) (f m out : List ℕ) → served (heard s) v (capitalForm f) m out ≡ served (heard s) v f m out
 unfolding served answered
-served-alike v f m out = rw (heard-alike (address m) f, capital-contents f)
+served-alike s v f m out = rw (heard-alike s (address m) f, capital-contents f)
 
 -- so are any two frames that differ in the case of letters alone
-pub either-case : (v : Version) (f g m out : List ℕ) → capitalForm f ≡ capitalForm g → served heard v f m out ≡ served heard v g m out
-either-case v f g m out e = sym (served-alike v f m out) ∙ ap (λ (h : List ℕ). served heard v h m out) e ∙ served-alike v g m out
+pub either-case : (s : Switch) (v : Version) (f g m out : List ℕ) → capitalForm f ≡ capitalForm g
+    → served (heard s) v f m out ≡ served (heard s) v g m out
+either-case s v f g m out e = sym (served-alike s v f m out) ∙ ap (λ (h : List ℕ). served (heard s) v h m out) e ∙ served-alike s v g m out
 
 -- and of two calls with such frames, by the promise of serving: they return the same and leave the same
-pub serve-alike : (f g m out : List ℕ) (r s : Answer) (m′ m″ o p : List ℕ) → capitalForm f ≡ capitalForm g
-    → Serves (served heard current f m out) r m′ o → Serves (served heard current g m out) s m″ p
+pub serve-alike : (k : Switch) (f g m out : List ℕ) (r s : Answer) (m′ m″ o p : List ℕ) → capitalForm f ≡ capitalForm g
+    → Serves (served (heard k) current f m out) r m′ o → Serves (served (heard k) current g m out) s m″ p
     → (r ≡ s) × (m′ ≡ m″) × (o ≡ p)
-serve-alike f g m out r s m′ m″ o p e x y = serve-one-outcome g m out r s m′ m″ o p (rw (either-case current f g m out e) at x) y
+serve-alike k f g m out r s m′ m″ o p e x y = serve-one-outcome k g m out r s m′ m″ o p (rw (either-case k current f g m out e) at x) y
 
 -- ---- replies
 
-module _ (v : Version) (f m : List ℕ) (bytes : Bytes m) where
+module _ (s : Switch) (v : Version) (f m : List ℕ) (bytes : Bytes m) where
   said : (a : Act) (d : Cell) → Bytes (says v a d m)
   said Show d = bytes-slice _ _ m bytes
   said Sign d = bytes-two (signature v d m) (signature-word v d m)
   said (Store k) d = bytes-none
 
-  answer : noSmall (answered heard v f m .reply) ≡ true
+  answer : noSmall (answered (heard s) v f m .reply) ≡ true
   unfolding answered heard all
-  answer = go (heard (address m) f) refl
+  answer = go (heard s (address m) f) refl
     where
-      go : (r : Verdict) → heard (address m) f ≡ r → noSmall (done v (heard (address m) f) (contentsOf f) m .reply) ≡ true
+      go : (r : Verdict) → heard s (address m) f ≡ r → noSmall (done v (heard s (address m) f) (contentsOf f) m .reply) ≡ true
       go (Refused n) e = rw e
       go (Accepted x a d) e =
           let c = take (2 + x) (contentsOf f) in
@@ -72,10 +74,10 @@ module _ (v : Version) (f m : List ℕ) (bytes : Bytes m) where
           rw e (frame-in-capitals (c ++ says v a d m) (bytes-append c (says v a d m) low (said a d)))
 
   -- no reply has a small letter, on an image of bytes
-  pub reply-in-capitals : (out : List ℕ) → noSmall (replyIn (served heard v f m out)) ≡ true
+  pub reply-in-capitals : (out : List ℕ) → noSmall (replyIn (served (heard s) v f m out)) ≡ true
   unfolding all
-  reply-in-capitals out = go (way heard v f m out)
+  reply-in-capitals out = go (way (heard s) v f m out)
     where
-      go : Way heard v f m out → noSmall (replyIn (served heard v f m out)) ≡ true
+      go : Way (heard s) v f m out → noSmall (replyIn (served (heard s) v f m out)) ≡ true
       go (early n i e) = rw e
-      go (through u room e) = rw (reply-seen heard heard-lawful v f m out u room) answer
+      go (through u room e) = rw (reply-seen (heard s) (heard-lawful s) v f m out u room) answer

@@ -15,6 +15,7 @@ use Rattle.image.specs.Fresh.{fresh}
 use Rattle.image.specs.Signature.{fullSum}
 use Rattle.image.specs.Stored.{stored}
 use Rattle.rules.specs.Rules.{rowed, rowsNamed, zeroFrom, blank, constantsOk, degrees, rises, clockOk, modeOk, commands, ruleOf}
+use Rattle.rules.specs.Seal.{lets}
 use Rattle.rules.specs.Verdict.{tried, sought, recognised}
 use Rattle.izk.specs.Heard.{heard, answered}
 use Rattle.izk.specs.Block.{served}
@@ -22,7 +23,7 @@ use Rattle.izk.specs.Frames.{ended, on, after, right, example, examples}
 
 -- on the fresh image P11's frame has another reply than after P10, so that the examples tell whether P10 was stored
 pub examples-hold : (all right examples ≡ true) × (right (example [] ":013F01BF" 0 ":013F0100BF" 0) ≡ true)
-unfolding examples ended on after right served answered heard recognised sought tried ruleOf commands rowed rowsNamed zeroFrom blank constantsOk
+unfolding examples ended on after right served answered heard recognised sought lets tried ruleOf commands rowed rowsNamed zeroFrom blank constantsOk
     degrees rises clockOk modeOk markOk addressOk countOk tableWord wordOk usable fresh fullSum stored when constantsNamed errorsNamed isTable
     tableIndex tableNamed partNamed lengthOk endsOk inner bodyOf contentsOf sumOk frameChecks frameOf isDigit valueOf charOf charsOf
     bytesOf checksumOf withBit judged within every all same slice lay zeros padded sumOf two wordAt codes

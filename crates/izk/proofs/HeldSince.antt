@@ -26,6 +26,7 @@ use Rattle.image.proofs.Stores.{bit-stays, own-bit}
 use Rattle.image.proofs.FreshImage.{fresh-bit, fresh-usable}
 use Rattle.rules.specs.declared.rule.Act.{Act}
 use Rattle.rules.specs.declared.rule.Act.the-variants.{Show, Sign, Store}
+use Rattle.rules.specs.declared.switch.Switch.{Switch}
 use Rattle.rules.specs.declared.verdict.Verdict.the-variants.{Accepted}
 use Rattle.rules.specs.Rules.{byte}
 use Rattle.rules.proofs.Parts.{part-by-59, stores-59}
@@ -63,40 +64,40 @@ one-of false b n = refl
 
 -- ---- one turn
 
-module _ (ear : Hearing) (ok : Lawful ear) (v : Version) (t p : ℕ) (table : isTable t ≡ true) (low : 1 ≤ p) where
+module _ (ear : Switch → Hearing) (ok : (s : Switch) → Lawful (ear s)) (v : Version) (t p : ℕ) (table : isTable t ≡ true) (low : 1 ≤ p) where
   -- the part's bit
   abbrev partBit : List ℕ → ℕ
   partBit m = bit (tableWord m (tableIndex t)) (p - 1)
 
-  module _ (f m : List ℕ) (u : usable v m ≡ true) (e : ℕ) (d : Cell) where
+  module _ (k : Switch) (f m : List ℕ) (u : usable v m ≡ true) (e : ℕ) (d : Cell) where
     abbrev c : List ℕ
     c = contentsOf f
 
-    sets : (a : Act) → ear (address m) f ≡ Accepted e a d → writesPart t p c ≡ true → partBit (leaves v a d c m) ≡ 1
+    sets : (a : Act) → ear k (address m) f ≡ Accepted e a d → writesPart t p c ≡ true → partBit (leaves v a d c m) ≡ 1
     sets a h w =
         let b = write-is t p c w in
-        let r = ok .known (address m) f h in
-        let s = stores-59 c (r .0) (r .1) (ok .follows (address m) f (r .0) h (r .1)) (b .0) in
+        let r = ok k .known (address m) f h in
+        let s = stores-59 c (r .0) (r .1) (ok k .follows (address m) f (r .0) h (r .1)) (b .0) in
         let i : d ≡ Part (tableIndex t) (p - 1) = rw (b .1, b .2) at (s .cell) in
-        let fit = rw (s .acts) at (accepted-fits ear ok f m e a d h .act) in
+        let fit = rw (s .acts) at (accepted-fits (ear k) (ok k) f m e a d h .act) in
         rw (s .acts) (own-bit v d (drop 4 c) fit m (facts v m u .long-is) (tableIndex t) (p - 1) i)
 
-    stores-own : (n : ℕ) → ear (address m) f ≡ Accepted e (Store n) d → d ≡ Part (tableIndex t) (p - 1) → writesPart t p c ≡ true
+    stores-own : (n : ℕ) → ear k (address m) f ≡ Accepted e (Store n) d → d ≡ Part (tableIndex t) (p - 1) → writesPart t p c ≡ true
     stores-own n h i =
-        let r = ok .known (address m) f h in
-        let follows = ok .follows (address m) f (r .0) h (r .1) in
-        let k = part-by-59 c (r .0) (r .1) follows n (tableIndex t) (p - 1) refl i in
-        let s = stores-59 c (r .0) (r .1) follows k in
+        let r = ok k .known (address m) f h in
+        let follows = ok k .follows (address m) f (r .0) h (r .1) in
+        let is-59 = part-by-59 c (r .0) (r .1) follows n (tableIndex t) (p - 1) refl i in
+        let s = stores-59 c (r .0) (r .1) follows is-59 in
         let same = s .cell in
         let j : tableIndex (byte c 3) ≡ tableIndex t = cc in
         let q : byte c 4 - 1 ≡ p - 1 = cc in
-        is-write t p c k (one-index (byte c 3) t (s .table) table j) (omega (arith, s .low))
+        is-write t p c is-59 (one-index (byte c 3) t (s .table) table j) (omega (arith, s .low))
 
-    keeps : (a : Act) → ear (address m) f ≡ Accepted e a d → writesPart t p c ≡ false → partBit (leaves v a d c m) ≡ partBit m
+    keeps : (a : Act) → ear k (address m) f ≡ Accepted e a d → writesPart t p c ≡ false → partBit (leaves v a d c m) ≡ partBit m
     keeps Show h w = refl
     keeps Sign h w = refl
     keeps (Store n) h w =
-        bit-stays v d (drop n c) (accepted-fits ear ok f m e (Store n) d h .act) m (facts v m u .long-is) (tableIndex t) (p - 1) (index-below t table)
+        bit-stays v d (drop n c) (accepted-fits (ear k) (ok k) f m e (Store n) d h .act) m (facts v m u .long-is) (tableIndex t) (p - 1) (index-below t table)
         (λ i. never (sym w ∙ stores-own n h i))
 
   wrote-done : (m : List ℕ) (x : Turn) → wrote ear v t p m x ≡ true → inTurn ear v m x .number ≡ 0
@@ -107,10 +108,10 @@ module _ (ear : Hearing) (ok : Lawful ear) (v : Version) (t p : ℕ) (table : is
   unfolding wrote
   turn-sets m x = go (went ear ok v m x)
     where
-      by : usable v m ≡ true → (e : ℕ) (a : Act) (d : Cell) → ear (address m) (x .frame) ≡ Accepted e a d
+      by : usable v m ≡ true → (e : ℕ) (a : Act) (d : Cell) → ear (x .switch) (address m) (x .frame) ≡ Accepted e a d
           → (w : Bool) → writesPart t p (contentsOf (x .frame)) ≡ w → partBit (leaves v a d (contentsOf (x .frame)) m) ≡ cond w 1 (partBit m)
-      by u e a d h true w = sets (x .frame) m u e d a h w
-      by u e a d h false w = keeps (x .frame) m u e d a h w
+      by u e a d h true w = sets (x .switch) (x .frame) m u e d a h w
+      by u e a d h false w = keeps (x .switch) (x .frame) m u e d a h w
 
       go : Went ear ok v m x → partBit (inTurn ear v m x .image) ≡ cond (wrote ear v t p m x) 1 (partBit m)
       go (refused n l i) =
@@ -159,7 +160,7 @@ module _ (w : ℕ) (test : ℕ → Bool) (tells : (p : ℕ) → 1 ≤ p → bit 
   unfolding heldOf lowestMissing
   held-told = rw (ones-told 11, missing-told 1 11 (omega arith))
 
-module _ (ear : Hearing) (ok : Lawful ear) (v : Version) (a t : ℕ) (xs : List Turn) where
+module _ (ear : Switch → Hearing) (ok : (s : Switch) → Lawful (ear s)) (v : Version) (a t : ℕ) (xs : List Turn) where
   -- the parts of the table that some turn wrote since the image was fresh
   abbrev wasWritten : ℕ → Bool
   wasWritten = everWrote ear v t (fresh v a) xs

@@ -10,4 +10,5 @@ pub mod HeldAfter
 pub mod Turns
 pub mod HeldSince
 pub mod Taking
+pub mod Sealed
 pub mod Refusals

@@ -12,14 +12,15 @@ use Rattle.image.specs.Version.{current}
 use Rattle.image.specs.Fresh.{Freshens, freshened}
 use Rattle.image.specs.Held.{heldParts}
 use Rattle.image.proofs.OneOutcome.{freshens-one-outcome, held-one-outcome}
+use Rattle.rules.specs.declared.switch.Switch.{Switch}
 use Rattle.command.specs.Reply.{Serves}
 use Rattle.izk.specs.Heard.{heard}
 use Rattle.izk.specs.Block.{served}
 
-pub serve-one-outcome : (f m out : List ℕ) (r s : Answer) (m′ m″ o p : List ℕ) → Serves (served heard current f m out) r m′ o
-    → Serves (served heard current f m out) s m″ p
+pub serve-one-outcome : (k : Switch) (f m out : List ℕ) (r s : Answer) (m′ m″ o p : List ℕ) → Serves (served (heard k) current f m out) r m′ o
+    → Serves (served (heard k) current f m out) s m″ p
     → (r ≡ s) × (m′ ≡ m″) × (o ≡ p)
-serve-one-outcome f m out r s m′ m″ o p x y = (
+serve-one-outcome k f m out r s m′ m″ o p x y = (
   alike r s (x .number-is ∙ sym (y .number-is)) (x .len-is ∙ sym (y .len-is)),
   x .image-is ∙ sym (y .image-is),
   x .out-is ∙ sym (y .out-is),

@@ -23,6 +23,7 @@ use Rattle.rules.specs.declared.rule.Act.the-variants.{Show, Store}
 use Rattle.rules.specs.declared.rule.Found.the-variants as F
 use Rattle.rules.specs.declared.rule.Names.the-variants as N
 use Rattle.rules.specs.declared.rule.Rule.{Rule}
+use Rattle.rules.specs.declared.switch.Switch.{Switch}
 use Rattle.rules.specs.declared.verdict.Verdict.the-variants.{Accepted}
 use Rattle.rules.specs.Rules.{byte, rowsNamed, namedBy, commands, ruleOf}
 use Rattle.rules.proofs.Naming.{when-cell}
@@ -50,36 +51,37 @@ shows-as-stored ear ok v g m e d shows u out room =
     record { done-is = rw (served-is ear v g m out u room, shows); reply-is = reply-seen ear ok v g m out u room ∙ rw shows }
 
 -- so a 63 that the block serves returns error table n, its count and as many rows as that says, from where it stands in the image
-pub error-table-shown : (v : Version) (g m out : List ℕ) (n : ℕ) → byte (contentsOf g) 2 ≡ 63 → byte (contentsOf g) 3 ≡ n
-    → served heard v g m out .number ≡ 0
-    → Replies (served heard v g m out) (frameOf (take 3 (contentsOf g) ++ slice (713 + 64 * (n - 1)) (1 + 3 * getD m (713 + 64 * (n - 1)) 0) m))
+pub error-table-shown : (k : Switch) (v : Version) (g m out : List ℕ) (n : ℕ) → byte (contentsOf g) 2 ≡ 63 → byte (contentsOf g) 3 ≡ n
+    → served (heard k) v g m out .number ≡ 0
+    → Replies (served (heard k) v g m out) (frameOf (take 3 (contentsOf g) ++ slice (713 + 64 * (n - 1)) (1 + 3 * getD m (713 + 64 * (n - 1)) 0) m))
 unfolding ruleOf commands errorsNamed when
-error-table-shown v g m out n is-63 is-n z =
-    let (u, room, x) = zero-is-accepted heard heard-lawful v g m out z in
-    let (r, found) = heard-lawful .known (address m) g (x .verdict) in
-    let b = heard-lawful .follows (address m) g r (x .verdict) found in
+error-table-shown k v g m out n is-63 is-n z =
+    let (u, room, x) = zero-is-accepted (heard k) (heard-lawful k) v g m out z in
+    let (r, found) = heard-lawful k .known (address m) g (x .verdict) in
+    let b = heard-lawful k .follows (address m) g r (x .verdict) found in
     let f = rw is-63 at found in
     let s : r .names ≡ N.ErrorTable = cc in
     let e : x .echo ≡ 1 = cc in
     let a : x .act ≡ Show = cc in
     let named : errorsNamed n ≡ Named′.Cell (x .cell) = rw (s, is-n) at (b .names) in
     let cell = when-cell (within 1 8 n) (Cells.Errors (n - 1)) (x .cell) named .1 in
-    let shows : heard (address m) g ≡ Accepted 1 Show (x .cell) = rw (e, a) at (x .verdict) in
-    rw (← cell) at (shows-as-stored heard heard-lawful v g m 1 (x .cell) shows u out room)
+    let shows : heard k (address m) g ≡ Accepted 1 Show (x .cell) = rw (e, a) at (x .verdict) in
+    rw (← cell) at (shows-as-stored (heard k) (heard-lawful k) v g m 1 (x .cell) shows u out room)
 
-module _ (ear : Hearing) (ok : Lawful ear) (v : Version) (f g m : List ℕ) (u : usable v m ≡ true) (e e′ k : ℕ) (d : Cell)
-    (stores : ear (address m) f ≡ Accepted e (Store k) d) (shows : ear (address m) g ≡ Accepted e′ Show d) where
+-- a write and a read need not be heard alike: the switch may be turned between them
+module _ (ear ear′ : Hearing) (ok : Lawful ear) (ok′ : Lawful ear′) (v : Version) (f g m : List ℕ) (u : usable v m ≡ true) (e e′ k : ℕ) (d : Cell)
+    (stores : ear (address m) f ≡ Accepted e (Store k) d) (shows : ear′ (address m) g ≡ Accepted e′ Show d) where
   back : says v Show d (answered ear v f m .image) ≡ drop k (contentsOf f)
   back =
       let fit = accepted-fits ear ok f m e (Store k) d stores .act in
       rw (accepted-leaves ear v f m e (Store k) d stores) (shown-back v d (drop k (contentsOf f)) fit m (facts v m u .long-is))
 
   pub reads-back : (out out′ : List ℕ) → 269 ≤ length out → 269 ≤ length out′
-      → Replies (served ear v g (served ear v f m out .image) out′) (frameOf (take (2 + e′) (contentsOf g) ++ drop k (contentsOf f)))
+      → Replies (served ear′ v g (served ear v f m out .image) out′) (frameOf (take (2 + e′) (contentsOf g) ++ drop k (contentsOf f)))
   reads-back out out′ room room′ =
-      let still = ap (λ (a : ℕ). ear a g) (answered-address ear ok v f m u) ∙ shows in
+      let still = ap (λ (a : ℕ). ear′ a g) (answered-address ear ok v f m u) ∙ shows in
       rw (served-is ear v f m out u room, ← back)
-      (shows-as-stored ear ok v g (answered ear v f m .image) e′ d still (answered-usable ear ok v f m u) out′ room′)
+      (shows-as-stored ear′ ok′ v g (answered ear v f m .image) e′ d still (answered-usable ear ok v f m u) out′ room′)
 
 -- ---- the five pairs
 
@@ -123,17 +125,17 @@ pairs = (
 )
 
 -- so what the one stores the other replies, after the bytes it echoes, if both were done
-pub written-reads-back : {w r : ℕ} (p : Pair w r) (ear : Hearing) → Lawful ear → (v : Version) (f g m out out′ : List ℕ)
+pub written-reads-back : {w r : ℕ} (p : Pair w r) (ear ear′ : Hearing) → Lawful ear → Lawful ear′ → (v : Version) (f g m out out′ : List ℕ)
     → byte (contentsOf f) 2 ≡ w → byte (contentsOf g) 2 ≡ r → SameBytes (p .reading .echo) (contentsOf f) (contentsOf g)
-    → served ear v f m out .number ≡ 0 → served ear v g (served ear v f m out .image) out′ .number ≡ 0
-    → Replies (served ear v g (served ear v f m out .image) out′) (frameOf (take (2 + p .reading .echo) (contentsOf g) ++ drop (p .from) (contentsOf f)))
-written-reads-back p ear ok v f g m out out′ cf cg same-bytes zf zg =
+    → served ear v f m out .number ≡ 0 → served ear′ v g (served ear v f m out .image) out′ .number ≡ 0
+    → Replies (served ear′ v g (served ear v f m out .image) out′) (frameOf (take (2 + p .reading .echo) (contentsOf g) ++ drop (p .from) (contentsOf f)))
+written-reads-back p ear ear′ ok ok′ v f g m out out′ cf cg same-bytes zf zg =
     let (u, room, x) = zero-is-accepted ear ok v f m out zf in
-    let (u′, room′, z) = zero-is-accepted ear ok v g _ out′ zg in
-    let y : Accepts ear (address m) g = rw (address-stays ear ok v f m out u) at z in
+    let (u′, room′, z) = zero-is-accepted ear′ ok′ v g _ out′ zg in
+    let y : Accepts ear′ (address m) g = rw (address-stays ear ok v f m out u) at z in
     let a = ok .follows (address m) f (p .writing) (x .verdict) (rw cf (p .written)) in
-    let b = ok .follows (address m) g (p .reading) (y .verdict) (rw cg (p .read)) in
+    let b = ok′ .follows (address m) g (p .reading) (y .verdict) (rw cg (p .read)) in
     let n = p .same (contentsOf f) (contentsOf g) (x .cell) same-bytes (a .names) in
     let hf : ear (address m) f ≡ Accepted (x .echo) (Store (p .from)) (x .cell) = x .verdict ∙ rw (a .acts, p .stores) in
-    let hg : ear (address m) g ≡ Accepted (p .reading .echo) Show (x .cell) = cc in
-    reads-back ear ok v f g m u (x .echo) (p .reading .echo) (p .from) (x .cell) hf hg out out′ room room′
+    let hg : ear′ (address m) g ≡ Accepted (p .reading .echo) Show (x .cell) = cc in
+    reads-back ear ear′ ok ok′ v f g m u (x .echo) (p .reading .echo) (p .from) (x .cell) hf hg out out′ room room′

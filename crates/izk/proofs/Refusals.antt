@@ -1,12 +1,16 @@
 -- First check first, and a refusal alters nothing: of each of the five, by laws on lists of checks. Assumes nothing.
-use mathlib.Core.Path.{_≡_, refl, ap, _∙_}
+use mathlib.Core.Path.{_≡_, refl, sym, ap, _∙_}
 use mathlib.Core.Logic.{_≢_}
-use mathlib.Core.List.{List, [], _∷_, map, List·Memᴰ}
-use mathlib.Core.Bool.{true, false}
-use Prim.Native.Nat.{ℕ, _≤_}
+use mathlib.Core.List.{List, [], _∷_, map, List·Memᴰ, List·Memᴰ·head, Memᴰ·append-right, Memᴰ·map}
+use mathlib.Core.Bool.{true, false, cond}
+use Prim.Native.Nat.{ℕ, _*_, _≤_}
+use native.Mathlib.Decide.{ℕ-discrete}
+use native.Mathlib.Omega.{arith}
 use lib.ListN.{length}
-use lib.Dec.{leb}
-use Rattle.laws.specs.Checks.{Check, check, judged, firstFailing, Gives, risingFrom}
+use lib.Dec.{leb, eqb}
+use borrow.Author.Tests.{eq-eqb, ne-eqb}
+use Rattle.laws.specs.Checks.{Check, check, judged, firstFailing, Gives, none, one, risingFrom, all}
+use Rattle.laws.proofs.Tests.{never, all-of}
 use Rattle.laws.proofs.Bytes.{lay-none}
 use Rattle.laws.proofs.Checks.{judged-map, gives-first, judged-gives, judged-refused, lowest-given}
 use Rattle.output.specs.Output.{OutputAfter, refuse, written}
@@ -17,14 +21,17 @@ use Rattle.image.specs.Version.{Version, current}
 use Rattle.image.specs.Usable.{usable, address}
 use Rattle.image.specs.Fresh.{FreshAfter, unfresh, freshChecks, freshened}
 use Rattle.image.specs.Held.{unheld, heldOf, heldChecks, heldParts}
+use Rattle.rules.specs.declared.switch.Switch.{Switch}
+use Rattle.rules.specs.declared.switch.Switch.the-variants.{Unsealed}
 use Rattle.rules.specs.declared.verdict.Verdict.{Verdict}
 use Rattle.rules.specs.declared.verdict.Verdict.the-variants.{Refused, Accepted}
+use Rattle.rules.specs.Seal.{lets}
 use Rattle.rules.specs.Verdict.{recognised, verdictNumber}
 use Rattle.rules.proofs.FirstCheck.{recognised-number}
 use Rattle.command.specs.Reply.{refusal, done, BuffersAfter, sent}
 use Rattle.izk.specs.Heard.{Hearing, heard, answered}
 use Rattle.izk.specs.Block.{served}
-use Rattle.izk.specs.Refusals.{serveChecks}
+use Rattle.izk.specs.Refusals.{serveChecks, rankOf}
 
 -- ---- first check first: each gives what its list of checks gives
 
@@ -32,20 +39,20 @@ done-number : (v : Version) (r : Verdict) (c m : List ℕ) → done v r c m .num
 done-number v (Refused n) c m = refl
 done-number v (Accepted e a d) c m = refl
 
-serve-number : (v : Version) (f m out : List ℕ) → served heard v f m out .number ≡ firstFailing (serveChecks v f m out)
+serve-number : (s : Switch) (v : Version) (f m out : List ℕ) → served (heard s) v f m out .number ≡ firstFailing (serveChecks s v f m out)
 unfolding served answered heard serveChecks frameChecks firstFailing judged
-serve-number v f m out =
-    judged-map (λ (b : BuffersAfter). b .number) (λ n. sent (refusal n m) out) outer (sent (answered heard v f m) out)
+serve-number s v f m out =
+    judged-map (λ (b : BuffersAfter). b .number) (λ n. sent (refusal n m) out) outer (sent (answered (heard s) v f m) out)
     ∙ ap (λ (n : ℕ). judged (λ n. n) outer n) (
-    done-number v (heard (address m) f) (contentsOf f) m ∙ judged-map verdictNumber Refused (frameChecks f) (recognised (address m) (contentsOf f))
-    ∙ ap (λ (n : ℕ). judged (λ n. n) (frameChecks f) n) (recognised-number (address m) (contentsOf f))
+    done-number v (heard s (address m) f) (contentsOf f) m ∙ judged-map verdictNumber Refused (frameChecks f) (recognised s (address m) (contentsOf f))
+    ∙ ap (λ (n : ℕ). judged (λ n. n) (frameChecks f) n) (recognised-number s (address m) (contentsOf f))
     )
   where
     outer : List Check
     outer = check 1 (usable v m) ∷ (check 2 (leb 269 (length out)) ∷ [])
 
-pub serve-gives : (v : Version) (f m out : List ℕ) → Gives (serveChecks v f m out) (served heard v f m out .number)
-serve-gives v f m out = rw (serve-number v f m out) (gives-first (serveChecks v f m out))
+pub serve-gives : (s : Switch) (v : Version) (f m out : List ℕ) → Gives (serveChecks s v f m out) (served (heard s) v f m out .number)
+serve-gives s v f m out = rw (serve-number s v f m out) (gives-first (serveChecks s v f m out))
 
 pub take-apart-gives : (f out : List ℕ) → Gives (apartChecks f out) (apart f out .number)
 unfolding apart
@@ -64,35 +71,82 @@ unfolding heldParts heldOf
 held-gives v m t = judged-gives (λ (h : Held). h .number) unheld (heldChecks v m t) _ (λ n. refl) (λ p. refl)
 
 -- the numbers of each list, in its order
-pub lists-numbered : (v : Version) (f m out c : List ℕ) (a t : ℕ)
-    → (map (λ x. x .number) (serveChecks v f m out) ≡ 1 ∷ (2 ∷ (3 ∷ (4 ∷ (5 ∷ (6 ∷ (7 ∷ (8 ∷ (9 ∷ (10 ∷ (11 ∷ [])))))))))))
+pub lists-numbered : (s : Switch) (v : Version) (f m out c : List ℕ) (a t : ℕ)
+    → (map (λ x. x .number) (serveChecks s v f m out) ≡ 1 ∷ (2 ∷ (3 ∷ (4 ∷ (5 ∷ (6 ∷ (7 ∷ (8 ∷ (16 ∷ (9 ∷ (10 ∷ (11 ∷ []))))))))))))
     × (map (λ x. x .number) (apartChecks f out) ≡ 2 ∷ (3 ∷ (4 ∷ (5 ∷ (6 ∷ [])))))
     × (map (λ x. x .number) (buildChecks c out) ≡ 3 ∷ (2 ∷ []))
     × (map (λ x. x .number) (freshChecks v m a) ≡ 1 ∷ (11 ∷ []))
     × (map (λ x. x .number) (heldChecks v m t) ≡ 1 ∷ (10 ∷ []))
 unfolding serveChecks frameChecks
-lists-numbered v f m out c a t = (refl, refl, refl, refl, refl)
+lists-numbered s v f m out c a t = (refl, refl, refl, refl, refl)
 
--- in four of the five they rise, in building they do not
+-- in three of the five they rise; in building they do not, and in serving 16 stands between 8 and 9
 pub lists-rise : (v : Version) (f m out c : List ℕ) (a t : ℕ)
-    → (risingFrom 0 (serveChecks v f m out) ≡ true) × (risingFrom 0 (apartChecks f out) ≡ true) × (risingFrom 0 (freshChecks v m a) ≡ true)
-    × (risingFrom 0 (heldChecks v m t) ≡ true) × (risingFrom 0 (buildChecks c out) ≡ false)
-unfolding serveChecks frameChecks risingFrom
-lists-rise v f m out c a t = (refl, refl, refl, refl, refl)
+    → (risingFrom 0 (apartChecks f out) ≡ true) × (risingFrom 0 (freshChecks v m a) ≡ true) × (risingFrom 0 (heldChecks v m t) ≡ true)
+    × (risingFrom 0 (buildChecks c out) ≡ false)
+unfolding frameChecks risingFrom
+lists-rise v f m out c a t = (refl, refl, refl, refl)
 
--- so in these four no check that fails has a lower number than the one given
+-- so in these three no check that fails has a lower number than the one given
 module _ {x : Check} where
-  pub serve-lowest : (v : Version) (f m out : List ℕ) → List·Memᴰ x (serveChecks v f m out) → x .passes ≡ false → served heard v f m out .number ≤ x .number
-  serve-lowest v f m out = lowest-given (serveChecks v f m out) _ (lists-rise v f m out [] 0 0 .0) (serve-gives v f m out)
-
   pub take-apart-lowest : (f out : List ℕ) → List·Memᴰ x (apartChecks f out) → x .passes ≡ false → apart f out .number ≤ x .number
-  take-apart-lowest f out = lowest-given (apartChecks f out) _ (lists-rise current f [] out [] 0 0 .1) (take-apart-gives f out)
+  take-apart-lowest f out = lowest-given (apartChecks f out) _ (lists-rise current f [] out [] 0 0 .0) (take-apart-gives f out)
 
   pub fresh-lowest : (v : Version) (m : List ℕ) (a : ℕ) → List·Memᴰ x (freshChecks v m a) → x .passes ≡ false → freshened v m a .number ≤ x .number
-  fresh-lowest v m a = lowest-given (freshChecks v m a) _ (lists-rise v [] m [] [] a 0 .2) (fresh-gives v m a)
+  fresh-lowest v m a = lowest-given (freshChecks v m a) _ (lists-rise v [] m [] [] a 0 .1) (fresh-gives v m a)
 
   pub held-lowest : (v : Version) (m : List ℕ) (t : ℕ) → List·Memᴰ x (heldChecks v m t) → x .passes ≡ false → heldParts v m t .number ≤ x .number
-  held-lowest v m t = lowest-given (heldChecks v m t) _ (lists-rise v [] m [] [] 0 t .3) (held-gives v m t)
+  held-lowest v m t = lowest-given (heldChecks v m t) _ (lists-rise v [] m [] [] 0 t .2) (held-gives v m t)
+
+-- ---- lowest number first, in serving
+
+-- each check with its rank for its number
+abbrev ranked : Check → Check
+ranked x = check (rankOf (x .number)) (x .passes)
+
+module _ (s : Switch) (v : Version) (f m out : List ℕ) where
+  ranks-rise : risingFrom 0 (map ranked (serveChecks s v f m out)) ≡ true
+  unfolding serveChecks risingFrom rankOf
+  ranks-rise = refl
+
+  rank-given : rankOf (firstFailing (serveChecks s v f m out)) ≡ firstFailing (map ranked (serveChecks s v f m out))
+  unfolding serveChecks firstFailing judged rankOf
+  rank-given = judged-map rankOf (λ n. n) (serveChecks s v f m out) 0
+
+  module _ {x : Check} (among : List·Memᴰ x (serveChecks s v f m out)) (fails : x .passes ≡ false) where
+    -- no check that fails ranks before the one given: 16 comes after 8 and before 9
+    pub serve-by-rank : rankOf (served (heard s) v f m out .number) ≤ rankOf (x .number)
+    serve-by-rank =
+        rw (serve-number s v f m out, rank-given)
+        (lowest-given (map ranked (serveChecks s v f m out)) _ ranks-rise (gives-first (map ranked (serveChecks s v f m out))) (Memᴰ·map ranked among) fails)
+
+-- ---- and unsealed, where there is no 16, by the numbers themselves
+
+by-rank : (n k : ℕ) → n ≢ 16 → rankOf n ≤ rankOf k → n ≤ k
+unfolding rankOf
+by-rank n k d h = go (ℕ-discrete k 16) (rw (ne-eqb n 16 d) at h)
+  where
+    go : Dec (k ≡ 16) → 2 * n ≤ cond (eqb k 16) 17 (2 * k) → n ≤ k
+    go (yes e) g = let z : 2 * n ≤ 17 = rw (eq-eqb k 16 e) at g in omega arith
+    go (no e) g = let z : 2 * n ≤ 2 * k = rw (ne-eqb k 16 e) at g in omega arith
+
+module _ (v : Version) (f m out : List ℕ) where
+  passes-16 : all (λ x. cond (eqb (x .number) 16) (x .passes) true) (serveChecks Unsealed v f m out) ≡ true
+  unfolding all serveChecks lets
+  passes-16 = refl
+
+  pub unsealed-never-16 : served (heard Unsealed) v f m out .number ≢ 16
+  unsealed-never-16 z = go (serve-gives Unsealed v f m out)
+    where
+      go : Gives (serveChecks Unsealed v f m out) (served (heard Unsealed) v f m out .number) → ⊥
+      go (none p e) = omega arith
+      go (one c i e) =
+          let among : List·Memᴰ c (serveChecks Unsealed v f m out) = rw (i .split) (Memᴰ·append-right (i .before) (List·Memᴰ·head refl)) in
+          let passes = all-of (λ x. cond (eqb (x .number) 16) (x .passes) true) passes-16 among in
+          never (sym (i .fails) ∙ (rw (eq-eqb (c .number) 16 (sym e ∙ z)) at passes))
+
+  pub serve-lowest : {x : Check} → List·Memᴰ x (serveChecks Unsealed v f m out) → x .passes ≡ false → served (heard Unsealed) v f m out .number ≤ x .number
+  serve-lowest among fails = by-rank _ _ unsealed-never-16 (serve-by-rank Unsealed v f m out among fails)
 
 -- ---- a refusal reports nothing and alters nothing
 

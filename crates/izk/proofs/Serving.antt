@@ -80,6 +80,12 @@ module _ (ear : Hearing) (ok : Lawful ear) (v : Version) (f m : List ℕ) (u : u
 
 -- ---- what is served
 
+-- it rests on what is heard and on nothing else of a hearing
+pub heard-same : (ear ear′ : Hearing) (v : Version) (f m out : List ℕ) → ear (address m) f ≡ ear′ (address m) f
+    → served ear v f m out ≡ served ear′ v f m out
+unfolding served answered
+heard-same ear ear′ v f m out e = rw e
+
 module _ (ear : Hearing) (v : Version) (f m out : List ℕ) where
   -- check 1 is given exactly then, check 2 exactly then; else the frame is answered
   pub unusable-is-1 : usable v m ≡ false → served ear v f m out ≡ sent (refusal 1 m) out

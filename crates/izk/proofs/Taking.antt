@@ -15,6 +15,7 @@ use Rattle.frame.specs.Apart.{apart, contentsOf, frameChecks}
 use Rattle.frame.proofs.Passing.{Taken, passed, failed, taken, contents-length}
 use Rattle.image.specs.Version.{current}
 use Rattle.image.specs.Usable.{usable, address}
+use Rattle.rules.specs.declared.switch.Switch.{Switch}
 use Rattle.rules.specs.declared.verdict.Verdict.{Verdict}
 use Rattle.rules.specs.declared.verdict.Verdict.the-variants.{Refused}
 use Rattle.rules.specs.Verdict.{recognised}
@@ -24,23 +25,23 @@ use Rattle.izk.specs.Block.{served}
 use Rattle.izk.proofs.Serving.{served-is}
 
 -- a refusal reports its number and length 0, and leaves both buffers
-pub refused-serves : (f m out : List ℕ) (n : ℕ) → served heard current f m out ≡ sent (refusal n m) out
-    → Serves (served heard current f m out) (record { number = n; len = 0 }) m out
-refused-serves f m out n e = rw e (record { number-is = refl; len-is = refl; image-is = refl; out-is = sym (lay-none out 0) })
+pub refused-serves : (s : Switch) (f m out : List ℕ) (n : ℕ) → served (heard s) current f m out ≡ sent (refusal n m) out
+    → Serves (served (heard s) current f m out) (record { number = n; len = 0 }) m out
+refused-serves s f m out n e = rw e (record { number-is = refl; len-is = refl; image-is = refl; out-is = sym (lay-none out 0) })
 
 module _ (f z w : List ℕ) (r : Answer) (room : 132 ≤ length z) (d : Does (apart f z) r w) where
   -- a number that is not 0 is serving's number
-  pub taken-refuses : (m out : List ℕ) → (r .number ≡ 0 → ⊥) → usable current m ≡ true → 269 ≤ length out
-      → served heard current f m out ≡ sent (refusal (r .number) m) out
+  pub taken-refuses : (k : Switch) (m out : List ℕ) → (r .number ≡ 0 → ⊥) → usable current m ≡ true → 269 ≤ length out
+      → served (heard k) current f m out ≡ sent (refusal (r .number) m) out
   unfolding answered heard
-  taken-refuses m out n u g = go (taken f z room)
+  taken-refuses k m out n u g = go (taken f z room)
     where
-      go : Taken f z → served heard current f m out ≡ sent (refusal (r .number) m) out
+      go : Taken f z → served (heard k) current f m out ≡ sent (refusal (r .number) m) out
       go (passed p e) = absurd (n (d .number-is ∙ ap (λ a. a .number) e))
-      go (failed k some i e reads) =
-          let h : heard (address m) f ≡ Refused k = reads Verdict Refused (recognised (address m) (contentsOf f)) in
-          let s : r .number ≡ k = d .number-is ∙ ap (λ a. a .number) e in
-          served-is heard current f m out u g ∙ rw (h, s)
+      go (failed n some i e reads) =
+          let h : heard k (address m) f ≡ Refused n = reads Verdict Refused (recognised k (address m) (contentsOf f)) in
+          let s : r .number ≡ n = d .number-is ∙ ap (λ a. a .number) e in
+          served-is (heard k) current f m out u g ∙ rw (h, s)
 
   module _ (zero-is : r .number ≡ 0) where
     -- with 0 the checks passed, and the work array holds the contents
@@ -53,7 +54,7 @@ module _ (f z w : List ℕ) (r : Answer) (room : 132 ≤ length z) (d : Does (ap
     opened = go (taken f z room)
       where
         go : Taken f z → Opened
-        go (failed k some i e reads) = absurd (some (sym (ap (λ a. a .number) e) ∙ sym (d .number-is) ∙ zero-is))
+        go (failed n some i e reads) = absurd (some (sym (ap (λ a. a .number) e) ∙ sym (d .number-is) ∙ zero-is))
         go (passed p e) =
             let l = contents-length f p in
             let n : r .len ≡ length (contentsOf f) = d .len-is ∙ ap (λ a. a .len) e in
@@ -68,11 +69,11 @@ module _ (f z w : List ℕ) (r : Answer) (room : 132 ≤ length z) (d : Does (ap
     contents-short = rw (opened .contents-are) (contents-length f (opened .passes) .1)
 
     -- so what the contents are answered is what is served
-    pub answered-serves : (m out : List ℕ) (s : Answer) (m′ out′ : List ℕ) → usable current m ≡ true → 269 ≤ length out
-        → Serves (sent (done current (recognised (address m) (take (r .len) w)) (take (r .len) w) m) out) s m′ out′
-        → Serves (served heard current f m out) s m′ out′
+    pub answered-serves : (k : Switch) (m out : List ℕ) (s : Answer) (m′ out′ : List ℕ) → usable current m ≡ true → 269 ≤ length out
+        → Serves (sent (done current (recognised k (address m) (take (r .len) w)) (take (r .len) w) m) out) s m′ out′
+        → Serves (served (heard k) current f m out) s m′ out′
     unfolding answered heard
-    answered-serves m out s m′ out′ u g h =
+    answered-serves k m out s m′ out′ u g h =
         let o = opened in
-        rw (served-is heard current f m out u g, judged-passed Refused (frameChecks f) (recognised (address m) (contentsOf f)) (o .passes))
+        rw (served-is (heard k) current f m out u g, judged-passed Refused (frameChecks f) (recognised k (address m) (contentsOf f)) (o .passes))
         (rw (o .contents-are) at h)

@@ -1,7 +1,8 @@
--- None of the four useless blocks keeps the promise, each breaks it at an example; yet there are such blocks, and one that keeps it. Assumes nothing.
+-- None of the four useless blocks keeps the promise, each breaks it at an example, also if it is useless in one position of the switch alone: the
+-- requests of the examples are served in both. Yet there are such blocks, and one that keeps it. Assumes nothing.
 use mathlib.Core.Path.{_≡_, refl, sym, ap, _∙_}
 use mathlib.Core.List.{List, [], _∷_, List·Memᴰ·head, List·Memᴰ·tail}
-use mathlib.Core.Bool.{true, _&&_}
+use mathlib.Core.Bool.{true, false, _&&_}
 use Prim.Native.Nat.{ℕ}
 use Prim.Native.String.{String}
 use native.Mathlib.Omega.{arith}
@@ -9,18 +10,25 @@ use lib.ListN.{length, getD}
 use lib.Seq.{take-length}
 use lib.Dec.{eqb}
 use borrow.Author.Tests.{eqb-true}
-use Rattle.laws.specs.Bytes.{zeros, codes}
+use Rattle.laws.specs.Bytes.{slice, zeros, codes}
 use Rattle.laws.specs.Checks.{same}
 use Rattle.laws.proofs.Tests.{and-both, same-is, all-of}
 use Rattle.laws.proofs.Bytes.{length-zeros, lay-take}
+use Rattle.frame.specs.Digits.{valueOf, bytesOf}
+use Rattle.frame.specs.Apart.{inner, bodyOf, contentsOf}
 use Rattle.image.specs.Version.{current}
 use Rattle.image.specs.Fresh.{fresh}
+use Rattle.rules.specs.declared.switch.Switch.{Switch}
+use Rattle.rules.specs.declared.switch.Switch.the-variants.{Unsealed, Sealed}
+use Rattle.rules.specs.Rules.{byte}
+use Rattle.rules.proofs.Sealing.{isWrite}
 use Rattle.command.specs.Reply.{BuffersAfter, replyIn}
 use Rattle.izk.specs.Heard.{heard}
 use Rattle.izk.specs.Block.{served}
 use Rattle.izk.specs.Frames.{Example, ended, on, after, right, example, examples}
 use Rattle.izk.specs.Useless.{Block, Keeps, RefusesAll, RepliesTheSame, StoresNothing, EchoesLater, refusing, sameToAll, forgetting, echoing}
 use Rattle.izk.proofs.Frames.{examples-hold}
+use Rattle.izk.proofs.Sealed.{others-as-unsealed}
 
 -- ---- what an example says
 
@@ -67,71 +75,92 @@ p11 = all-of right (examples-hold .0)
 other-length : (s t : String) (m n : ℕ) → length (ended s) ≡ m → length (ended t) ≡ n → (m ≡ n → ⊥) → ended s ≡ ended t → ⊥
 other-length s t m n a b d e = d (sym a ∙ ap length e ∙ b)
 
+-- P1 and P9 are no writes
+asks-50 : isWrite (byte (contentsOf (ended ":0132CD")) 2) ≡ false
+unfolding codes ended contentsOf bodyOf inner bytesOf valueOf slice
+asks-50 = refl
+
+asks-61 : isWrite (byte (contentsOf (ended ":013D01C1")) 2) ≡ false
+unfolding codes ended contentsOf bodyOf inner bytesOf valueOf slice
+asks-61 = refl
+
 -- ---- the four
+
+-- a frame that is no write is served sealed as it is unsealed
+either-way : (s : Switch) (m : List ℕ) (t : String) → isWrite (byte (contentsOf (ended t)) 2) ≡ false
+    → served (heard s) current (ended t) m (zeros 269) ≡ on m t
+unfolding on
+either-way Unsealed m t w = refl
+either-way Sealed m t w = others-as-unsealed current (ended t) m (zeros 269) w
 
 module _ (b : Block) (keeps : Keeps b) where
   -- what a call of the block does with a frame given as text
-  call : (n : ℕ) (m : List ℕ) (s : String) → b n (ended s) m (zeros 269) ≡ on m s
+  call : (n : ℕ) (s : Switch) (m : List ℕ) (t : String) → isWrite (byte (contentsOf (ended t)) 2) ≡ false → b n s (ended t) m (zeros 269) ≡ on m t
+  call n s m t w = keeps n s (ended t) m (zeros 269) ∙ either-way s m t w
+
+  module _ (s : Switch) where
+    -- at P1
+    pub not-refusing : ¬ RefusesAll s b
+    unfolding after
+    not-refusing r = r 0 (ended ":0132CD") (fresh current 1) (zeros 269) (ap (λ a. a .number) (call 0 s (fresh current 1) ":0132CD" asks-50) ∙ number-is P1 p1)
+
+    -- at P1 and P9
+    pub not-replying-the-same : ¬ RepliesTheSame s b
+    unfolding after codes ended
+    not-replying-the-same r =
+        other-length ":013200CD" ":013D010000C1" 11 15 refl refl (λ e. absurd (let z : ⊥ = omega arith in z))
+        (sym (reply-is P1 p1) ∙ sym (ap replyIn (call 0 s (fresh current 1) ":0132CD" asks-50))
+        ∙ r 0 0 (ended ":0132CD") (ended ":013D01C1") (fresh current 1) (zeros 269) ∙ ap replyIn (call 0 s (fresh current 1) ":013D01C1" asks-61)
+        ∙ reply-is P9 p9)
+
+    -- at P1, as the second call
+    pub not-echoing : ¬ EchoesLater s b
+    unfolding after codes ended
+    not-echoing r =
+        other-length ":013200CD" ":0132CD" 11 9 refl refl (λ e. absurd (let z : ⊥ = omega arith in z))
+        (sym (reply-is P1 p1) ∙ sym (ap replyIn (call 1 s (fresh current 1) ":0132CD" asks-50))
+        ∙ r 0 (ended ":0132CD") (fresh current 1) (zeros 269) (rw (length-zeros 269) (omega arith)))
+
+  stored : (m : List ℕ) (t : String) → b 0 Unsealed (ended t) m (zeros 269) ≡ on m t
   unfolding on
-  call n m s = keeps n (ended s) m (zeros 269)
+  stored m t = keeps 0 Unsealed (ended t) m (zeros 269)
 
-  -- at P1
-  pub not-refusing : ¬ RefusesAll b
-  unfolding after
-  not-refusing r = r 0 (ended ":0132CD") (fresh current 1) (zeros 269) (ap (λ a. a .number) (call 0 (fresh current 1) ":0132CD") ∙ number-is P1 p1)
-
-  -- at P1 and P9
-  pub not-replying-the-same : ¬ RepliesTheSame b
-  unfolding after codes ended
-  not-replying-the-same r =
-      other-length ":013200CD" ":013D010000C1" 11 15 refl refl (λ e. absurd (let z : ⊥ = omega arith in z))
-      (sym (reply-is P1 p1) ∙ sym (ap replyIn (call 0 (fresh current 1) ":0132CD"))
-      ∙ r 0 0 (ended ":0132CD") (ended ":013D01C1") (fresh current 1) (zeros 269) ∙ ap replyIn (call 0 (fresh current 1) ":013D01C1") ∙ reply-is P9 p9)
-
-  -- at P11
-  pub not-storing-nothing : ¬ StoresNothing b
+  -- at P11, unsealed; sealed, to store nothing is what is asked
+  pub not-storing-nothing : ¬ StoresNothing Unsealed b
   unfolding after codes ended
   not-storing-nothing r =
       other-length ":013F0101140005A5" ":013F0100BF" 19 13 refl refl (λ e. absurd (let z : ⊥ = omega arith in z))
       (sym (reply-is P11 p11) ∙ ap (λ (m : List ℕ). replyIn (on m ":013F01BF")) kept ∙ reply-is (example [] ":013F01BF" 0 ":013F0100BF" 0) (examples-hold .1))
     where
       kept : after (fresh current 1) (":013E0101140005A6" ∷ []) ≡ fresh current 1
-      kept = ap (λ a. a .image) (sym (call 0 (fresh current 1) ":013E0101140005A6")) ∙ r 0 (ended ":013E0101140005A6") (fresh current 1) (zeros 269)
-
-  -- at P1, as the second call
-  pub not-echoing : ¬ EchoesLater b
-  unfolding after codes ended
-  not-echoing r =
-      other-length ":013200CD" ":0132CD" 11 9 refl refl (λ e. absurd (let z : ⊥ = omega arith in z))
-      (sym (reply-is P1 p1) ∙ sym (ap replyIn (call 1 (fresh current 1) ":0132CD"))
-      ∙ r 0 (ended ":0132CD") (fresh current 1) (zeros 269) (rw (length-zeros 269) (omega arith)))
+      kept = ap (λ a. a .image) (sym (stored (fresh current 1) ":013E0101140005A6")) ∙ r 0 (ended ":013E0101140005A6") (fresh current 1) (zeros 269)
 
 -- ---- there are such blocks
 
 -- each is of its kind, and does what its kind is known for: one replies to all, one acknowledges what it does not store, one serves its first frame
 pub record UselessBlocks : Type 0 where
-  pub refuses : RefusesAll refusing
-  pub same : RepliesTheSame sameToAll
-  pub same-replies : (n : ℕ) (f : List ℕ) → sameToAll n f (fresh current 1) (zeros 269) .number ≡ 0
-  pub forgets : StoresNothing forgetting
-  pub acknowledges : (n : ℕ) (f m out : List ℕ) → (forgetting n f m out .number ≡ served heard current f m out .number)
-      × (replyIn (forgetting n f m out) ≡ replyIn (served heard current f m out))
-  pub echoes : EchoesLater echoing
-  pub serves-first : (f m out : List ℕ) → echoing 0 f m out ≡ served heard current f m out
+  pub refuses : (s : Switch) → RefusesAll s refusing
+  pub same : (s : Switch) → RepliesTheSame s sameToAll
+  pub same-replies : (n : ℕ) (s : Switch) (f : List ℕ) → sameToAll n s f (fresh current 1) (zeros 269) .number ≡ 0
+  pub forgets : (s : Switch) → StoresNothing s forgetting
+  pub acknowledges : (n : ℕ) (s : Switch) (f m out : List ℕ) → (forgetting n s f m out .number ≡ served (heard s) current f m out .number)
+      × (replyIn (forgetting n s f m out) ≡ replyIn (served (heard s) current f m out))
+  pub echoes : (s : Switch) → EchoesLater s echoing
+  pub serves-first : (s : Switch) (f m out : List ℕ) → echoing 0 s f m out ≡ served (heard s) current f m out
 
 pub useless-blocks : UselessBlocks
-unfolding on after
+unfolding after
 useless-blocks =
     record {
-      refuses = λ n f m out e. absurd (omega arith);
-      same = λ n k f g m out. refl;
-      same-replies = λ n f. number-is P1 p1;
-      forgets = λ n f m out. refl;
-      acknowledges = λ n f m out. (refl, refl);
-      echoes = λ n f m out h. lay-take out f h (length f) (omega arith) ∙ take-length f;
-      serves-first = λ f m out. refl;
+      refuses = λ s n f m out e. absurd (omega arith);
+      same = λ s n k f g m out. refl;
+      same-replies = λ n s f. ap (λ a. a .number) (either-way s (fresh current 1) ":0132CD" asks-50) ∙ number-is P1 p1;
+      forgets = λ s n f m out. refl;
+      acknowledges = λ n s f m out. (refl, refl);
+      echoes = λ s n f m out h. lay-take out f h (length f) (omega arith) ∙ take-length f;
+      serves-first = λ s f m out. refl;
     }
 
 -- and there is a block that keeps the promise
-pub some-keeps : Keeps (λ n f m out. served heard current f m out)
-some-keeps n f m out = refl
+pub some-keeps : Keeps (λ n s f m out. served (heard s) current f m out)
+some-keeps n s f m out = refl

@@ -12,6 +12,7 @@ use Rattle.laws.specs.Checks.{same}
 use Rattle.reorder.specs.Reorder.{final}
 use Rattle.image.specs.Version.{current}
 use Rattle.image.specs.Fresh.{fresh}
+use Rattle.rules.specs.declared.switch.Switch.the-variants.{Unsealed}
 use Rattle.command.specs.Reply.{BuffersAfter, replyIn}
 use Rattle.izk.specs.Heard.{heard}
 use Rattle.izk.specs.Block.{served}
@@ -29,9 +30,9 @@ pub record Example : Type 0 where
   pub reply : String
   pub mask : ℕ
 
--- served on an image, with an output of 269 zeros
+-- served unsealed on an image, with an output of 269 zeros
 unfoldable pub on : List ℕ → String → BuffersAfter
-on m f = served heard current (ended f) m (zeros 269)
+on m f = served (heard Unsealed) current (ended f) m (zeros 269)
 
 unfoldable pub after : List ℕ → List String → List ℕ
 after m fs = final (λ m f. (on m f, on m f .image)) m fs

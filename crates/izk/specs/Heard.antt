@@ -1,4 +1,5 @@
--- What hears a frame, and what is answered: checks 3 to 11 of document 01 ("Refusal numbers"), then the act. Assumes nothing.
+-- What hears a frame, and what is answered: checks 3 to 11 of document 01 ("Refusal numbers"), with check 16 of document 02 (request 11) behind 8,
+-- then the act. Assumes nothing.
 use mathlib.Core.Path.{_≡_}
 use mathlib.Core.List.{List}
 use Prim.Native.Nat.{ℕ}
@@ -10,6 +11,7 @@ use Rattle.image.specs.Usable.{address}
 use Rattle.rules.specs.declared.rule.Act.{Act}
 use Rattle.rules.specs.declared.rule.Found.the-variants as Found′
 use Rattle.rules.specs.declared.rule.Rule.{Rule}
+use Rattle.rules.specs.declared.switch.Switch.{Switch}
 use Rattle.rules.specs.declared.verdict.Verdict.{Verdict}
 use Rattle.rules.specs.declared.verdict.Verdict.the-variants.{Refused, Accepted}
 use Rattle.rules.specs.Rules.{byte, commands, ruleOf}
@@ -21,9 +23,9 @@ use Rattle.command.specs.Reply.{Outcome, done}
 abbrev pub Hearing : Type 0
 Hearing = ℕ → List ℕ → Verdict
 
--- the block's: the frame's own checks come first, then those of its body
-unfoldable pub heard : Hearing
-heard a f = judged Refused (frameChecks f) (recognised a (contentsOf f))
+-- the block's, as its key switch stands: the frame's own checks come first, then those of its body
+unfoldable pub heard : Switch → Hearing
+heard s a f = judged Refused (frameChecks f) (recognised s a (contentsOf f))
 
 -- what the laws of serving ask of a hearing, and all that they know of it
 pub record Lawful (ear : Hearing) : Type 0 where

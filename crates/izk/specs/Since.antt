@@ -1,5 +1,5 @@
--- What a list of frames has done to an image, served one after the other, told by the frames' own bytes and the numbers that they were given.
--- It is what "since the image was fresh" means in document 01 ("The image"). Assumes nothing.
+-- What a list of frames has done to an image, served one after the other, told by the frames' own bytes and the numbers that they were given. The key
+-- may be turned between any two. It is what "since the image was fresh" means in document 01 ("The image"). Assumes nothing.
 use mathlib.Core.List.{List, [], _∷_}
 use mathlib.Core.Bool.{Bool, false, cond, _&&_, _||_}
 use Prim.Native.Nat.{ℕ, zero, suc, _+_}
@@ -7,22 +7,24 @@ use lib.Dec.{eqb}
 use Rattle.reorder.specs.Reorder.{final}
 use Rattle.frame.specs.Apart.{contentsOf}
 use Rattle.image.specs.Version.{Version}
+use Rattle.rules.specs.declared.switch.Switch.{Switch}
 use Rattle.rules.specs.Rules.{byte}
 use Rattle.command.specs.Reply.{BuffersAfter}
 use Rattle.izk.specs.Heard.{Hearing}
 use Rattle.izk.specs.Block.{served}
 
--- a frame, and the output that is lent with it, which may be too short
+-- the position of the switch, a frame, and the output that is lent with it, which may be too short
 pub record Turn : Type 0 where
+  pub switch : Switch
   pub frame : List ℕ
   pub out : List ℕ
 
 -- ---- one turn after the other
 
-module _ (ear : Hearing) (v : Version) where
+module _ (ear : Switch → Hearing) (v : Version) where
   -- a turn, on the image that it finds
   abbrev pub inTurn : List ℕ → Turn → BuffersAfter
-  inTurn m x = served ear v (x .frame) m (x .out)
+  inTurn m x = served (ear (x .switch)) v (x .frame) m (x .out)
 
   -- the image that is left in the end
   unfoldable pub left : List ℕ → List Turn → List ℕ
@@ -39,7 +41,7 @@ module _ (ear : Hearing) (v : Version) where
 unfoldable pub writesPart : ℕ → ℕ → List ℕ → Bool
 writesPart t p c = eqb (byte c 2) 59 && (eqb (byte c 3) t && eqb (byte c 4) p)
 
-module _ (ear : Hearing) (v : Version) (t : ℕ) where
+module _ (ear : Switch → Hearing) (v : Version) (t : ℕ) where
   -- a turn wrote part p of table t: its frame was accepted, and is a 59 that names them
   unfoldable pub wrote : ℕ → List ℕ → Turn → Bool
   wrote p m x = eqb (inTurn ear v m x .number) 0 && writesPart t p (contentsOf (x .frame))

@@ -5,46 +5,50 @@ use mathlib.Core.List.{List}
 use Prim.Native.Nat.{ℕ, zero, suc, _≤_}
 use lib.ListN.{length}
 use Rattle.image.specs.Version.{current}
+use Rattle.rules.specs.declared.switch.Switch.{Switch}
 use Rattle.command.specs.Reply.{refusal, BuffersAfter, sent, replyIn}
 use Rattle.izk.specs.Heard.{heard}
 use Rattle.izk.specs.Block.{served}
 use Rattle.izk.specs.Frames.{ended}
 
--- a block as it looks from outside: its n-th call, from 0, on a frame, an image and an output. Of one run of calls, what it keeps between them shows in n
+-- a block as it looks from outside: its n-th call, from 0, with the position of the switch, on a frame, an image and an output. Of one run of calls,
+-- what it keeps between them shows in n
 abbrev pub Block : Type 0
-Block = ℕ → List ℕ → List ℕ → List ℕ → BuffersAfter
+Block = ℕ → Switch → List ℕ → List ℕ → List ℕ → BuffersAfter
 
 -- it keeps the promise of serving at every call
 abbrev pub Keeps : Block → Type 0
-Keeps b = (n : ℕ) (f m out : List ℕ) → b n f m out ≡ served heard current f m out
+Keeps b = (n : ℕ) (s : Switch) (f m out : List ℕ) → b n s f m out ≡ served (heard s) current f m out
 
-abbrev pub RefusesAll : Block → Type 0
-RefusesAll b = (n : ℕ) (f m out : List ℕ) → b n f m out .number ≢ 0
+-- ---- each kind, in one position of the switch: a block is useless too if it is so in that position alone
 
-abbrev pub RepliesTheSame : Block → Type 0
-RepliesTheSame b = (n k : ℕ) (f g m out : List ℕ) → replyIn (b n f m out) ≡ replyIn (b k g m out)
+abbrev pub RefusesAll : Switch → Block → Type 0
+RefusesAll s b = (n : ℕ) (f m out : List ℕ) → b n s f m out .number ≢ 0
+
+abbrev pub RepliesTheSame : Switch → Block → Type 0
+RepliesTheSame s b = (n k : ℕ) (f g m out : List ℕ) → replyIn (b n s f m out) ≡ replyIn (b k s g m out)
 
 -- it acknowledges a write and stores nothing
-abbrev pub StoresNothing : Block → Type 0
-StoresNothing b = (n : ℕ) (f m out : List ℕ) → b n f m out .image ≡ m
+abbrev pub StoresNothing : Switch → Block → Type 0
+StoresNothing s b = (n : ℕ) (f m out : List ℕ) → b n s f m out .image ≡ m
 
 -- it serves its first frame and then only sends each frame back, where there is room for it
-abbrev pub EchoesLater : Block → Type 0
-EchoesLater b = (n : ℕ) (f m out : List ℕ) → length f ≤ length out → replyIn (b (suc n) f m out) ≡ f
+abbrev pub EchoesLater : Switch → Block → Type 0
+EchoesLater s b = (n : ℕ) (f m out : List ℕ) → length f ≤ length out → replyIn (b (suc n) s f m out) ≡ f
 
 -- ---- one block of each kind
 
 abbrev pub refusing : Block
-refusing n f m out = sent (refusal 8 m) out
+refusing n s f m out = sent (refusal 8 m) out
 
 -- every frame is answered as a request for the mask would be
 abbrev pub sameToAll : Block
-sameToAll n f m out = served heard current (ended ":0132CD") m out
+sameToAll n s f m out = served (heard s) current (ended ":0132CD") m out
 
 -- what serving reports and replies, on an image that stays
 abbrev pub forgetting : Block
-forgetting n f m out = let a = served heard current f m out in record { number = a .number; len = a .len; image = m; out = a .out }
+forgetting n s f m out = let a = served (heard s) current f m out in record { number = a .number; len = a .len; image = m; out = a .out }
 
 abbrev pub echoing : Block
-echoing zero f m out = served heard current f m out
-echoing (suc n) f m out = sent (record { number = 0; reply = f; image = m }) out
+echoing zero s f m out = served (heard s) current f m out
+echoing (suc n) s f m out = sent (record { number = 0; reply = f; image = m }) out

@@ -1,7 +1,8 @@
 // The block as the customer sees it: five functions, each of which takes every input and says, for every input, all that it returns and
-// leaves. A frame, an image and an output are lent; lengths are those of the whole lent slice. The numbers are document 01's.
+// leaves. A frame, an image and an output are lent; lengths are those of the whole lent slice. The numbers are document 01's, and 16 document 02's.
 use image::Held;
 use output::Answer;
+use rules::Switch;
 ghost use mathlib.Core.Path.{_≡_};
 ghost use Rattle.output.specs.Output.{Does};
 ghost use Rattle.frame.specs.Apart.{apart};
@@ -13,9 +14,11 @@ ghost use Rattle.command.specs.Reply.{Serves};
 ghost use Rattle.izk.specs.Heard.{heard};
 ghost use Rattle.izk.specs.Block.{served};
 
-// Serves a frame: the reply stands at the start of the output, and a write changes its cell of the image. Refuses 1 to 11.
-pub fn serve(frame: &[u8], m: &mut [u8], out: &mut [u8]) -> Answer
-    ensures { λ r. ⌜ Serves (served heard current (now (frame .entry)) (now (m .entry)) (now (out .entry))) r (now (m .exit)) (now (out .exit)) ⌝ }
+// Serves a frame: the reply stands at the start of the output, and a write changes its cell of the image. Sealed, no frame changes the image. Refuses
+// 1 to 8, then 16, then 9 to 11.
+pub fn serve(frame: &[u8], switch: Switch, m: &mut [u8], out: &mut [u8]) -> Answer
+    ensures { λ r. ⌜ Serves (served (heard switch) current (now (frame .entry)) (now (m .entry)) (now (out .entry)))
+        r (now (m .exit)) (now (out .exit)) ⌝ }
 {
     if !image::is_usable(m) {
         return Answer { number: 1, len: 0 };
@@ -31,7 +34,7 @@ pub fn serve(frame: &[u8], m: &mut [u8], out: &mut [u8]) -> Answer
     }
     let n = taken.len;
     let body = &work[..n];
-    let verdict = rules::recognise(body, m[image::ADDRESS_OFFSET]);
+    let verdict = rules::recognise(body, m[image::ADDRESS_OFFSET], switch);
     command::reply_to(verdict, body, m, out)
 }
 

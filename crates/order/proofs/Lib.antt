@@ -1,4 +1,5 @@
 pub mod Demand3
 pub mod FrameCells
+pub mod Sealed
 pub mod Tests
 pub mod Worked

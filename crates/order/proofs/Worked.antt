@@ -22,7 +22,9 @@ use Rattle.image.specs.Usable.{markOk, addressOk, countOk, wordOk, usable}
 use Rattle.image.specs.Fresh.{fresh}
 use Rattle.image.specs.Stored.{stored}
 use Rattle.image.proofs.FreshImage.{fresh-usable}
+use Rattle.rules.specs.declared.switch.Switch.the-variants.{Unsealed}
 use Rattle.rules.specs.Rules.{commands, ruleOf}
+use Rattle.rules.specs.Seal.{lets}
 use Rattle.rules.specs.Verdict.{tried, sought, recognised}
 use Rattle.izk.specs.Heard.{heard, answered}
 use Rattle.izk.specs.Block.{served}
@@ -63,8 +65,8 @@ redone : undoes other back ≡ true
 unfolding undoes other back every
 redone = refl
 
-no-two-meet : quiet heard 1 calls ≡ true
-unfolding quiet noneMeet clear disjoint all run calls partsSent othersSent heard recognised sought tried ruleOf commands when isTable tableIndex
+no-two-meet : quiet (heard Unsealed) 1 calls ≡ true
+unfolding quiet noneMeet clear disjoint all run calls partsSent othersSent heard recognised sought lets tried ruleOf commands when isTable tableIndex
     tableNamed partNamed lengthOk endsOk inner bodyOf contentsOf sumOk frameChecks frameOf isDigit valueOf charOf charsOf bytesOf checksumOf judged
     within every slice sumOf
 no-two-meet = refl
@@ -83,11 +85,11 @@ same-frames : framesOf callsAgain ≡ pick [] (framesOf calls) other
 unfolding callsAgain calls partsSent othersSent other
 same-frames = refl
 
-pub same-service : SameService (step heard current) (0, []) (fresh current 1) calls callsAgain other
+pub same-service : SameService (step (heard Unsealed) current) (0, []) (fresh current 1) calls callsAgain other
 unfolding calls partsSent othersSent back fresh lay zeros
 same-service =
-    any-order-serves heard heard-lawful current 1 calls callsAgain other (fresh current 1) (is-usable, refl) (reorders-of back other undone redone) same-frames
-    (no-clash-of heard 1 calls no-two-meet)
+    any-order-serves (heard Unsealed) (heard-lawful Unsealed) current 1 calls callsAgain other (fresh current 1) (is-usable, refl) (reorders-of back other undone redone) same-frames
+    (no-clash-of (heard Unsealed) 1 calls no-two-meet)
 
 -- ---- both orders, computed by the definition alone
 
@@ -107,9 +109,9 @@ expected =
     ++ (heldWords ++ (zeros 2584 ++ (rows 1 11 ++ (zeros 9856 ++ (rows 1 2 ++ zeros 9600)))))
 
 -- as written, and otherwise, into the other outputs
-pub both-orders : (final (step heard current) (fresh current 1) calls ≡ expected)
-    × (final (step heard current) (fresh current 1) callsAgain ≡ expected)
-unfolding calls callsAgain other partsSent othersSent rows heldWords expected served answered heard recognised sought tried stored ruleOf commands
+pub both-orders : (final (step (heard Unsealed) current) (fresh current 1) calls ≡ expected)
+    × (final (step (heard Unsealed) current) (fresh current 1) callsAgain ≡ expected)
+unfolding calls callsAgain other partsSent othersSent rows heldWords expected served answered heard recognised sought lets tried stored ruleOf commands
     markOk addressOk countOk tableWord wordOk usable fresh when isTable tableIndex tableNamed partNamed lengthOk endsOk inner bodyOf contentsOf sumOk
     frameChecks frameOf isDigit valueOf charOf charsOf bytesOf checksumOf withBit judged within every all slice lay zeros padded sumOf two wordAt
 both-orders = (refl, refl)

@@ -3,6 +3,7 @@ use crate::print;
 use crate::script;
 use crate::script::State;
 use output::Answer;
+use rules::Switch;
 ghost use Prim.Native.Nat.{_<_, _≤_};
 ghost use lib.ListN.{length};
 
@@ -32,8 +33,13 @@ fn answered(letter: u8, a: Answer) {
     print::number(a.len as u64);
 }
 
-fn serve(frame: &[u8], image: &mut [u8], out: &mut [u8]) {
-    answered(b'S', izk::serve(frame, image, out));
+fn serve(letter: u8, frame: &[u8], image: &mut [u8], out: &mut [u8]) {
+    let switch = if letter == b'K' {
+        Switch::Sealed
+    } else {
+        Switch::Unsealed
+    };
+    answered(letter, izk::serve(frame, switch, image, out));
     print::bytes(image);
     print::bytes(out);
     print::end();
@@ -78,7 +84,7 @@ fn call(rec: &[u8], image: &mut [u8], out: &mut [u8])
     match letter {
         b'F' => fresh(rec[1], image),
         b'H' => held(rec, image),
-        b'S' => serve(&rec[from..], image, out),
+        b'K' | b'S' => serve(letter, &rec[from..], image, out),
         b'T' => take_apart(&rec[from..], out),
         _ => build(&rec[from..], out),
     }

@@ -39,7 +39,7 @@ fn least_size(letter: u8) -> usize
 {
     match letter {
         b'F' => 2,
-        b'B' | b'S' | b'T' => 3,
+        b'B' | b'K' | b'S' | b'T' => 3,
         b'L' | b'O' => 4,
         b'H' | b'P' => 5,
         _ => 0,

@@ -29,6 +29,7 @@ use Rattle.rules.specs.declared.rule.Long.the-variants.{Is, Rowed}
 use Rattle.rules.specs.declared.rule.Names.{Names}
 use Rattle.rules.specs.declared.rule.Names.the-variants as N
 use Rattle.rules.specs.declared.rule.Rule.{Rule}
+use Rattle.rules.specs.declared.switch.Switch.{Switch}
 use Rattle.rules.specs.declared.verdict.Verdict.{Verdict}
 use Rattle.rules.specs.declared.verdict.Verdict.the-variants.{Refused, Accepted}
 use Rattle.rules.specs.Rules.{Command, byte, rowed, longOk, namedBy, commands, ruleOf}
@@ -191,16 +192,16 @@ found-tested t k r (l ∷ ls) h i =
         rw (← n, ← q) (p .0)
     go false e p j ih = ih (p .1) j
 
-sought-fits : (c : List ℕ) → FitVerdict (sought commands c) c
+sought-fits : (s : Switch) (c : List ℕ) → FitVerdict (sought s commands c) c
 unfolding sought
-sought-fits c = go (ruleOf (byte c 2) commands) refl
+sought-fits s c = go (ruleOf (byte c 2) commands) refl
   where
-    go : (x : Found) → ruleOf (byte c 2) commands ≡ x → FitVerdict (triedIf x c) c
+    go : (x : Found) → ruleOf (byte c 2) commands ≡ x → FitVerdict (triedIf s x c) c
     go F.Nothing i = tt
-    go (F.Rule r) i = tried-fits r (found-tested (λ k x. ruleFits x) (byte c 2) r commands commands-fit i) c
+    go (F.Rule r) i = judged-fits _ (tried r c) c (λ t. tried-fits r (found-tested (λ k x. ruleFits x) (byte c 2) r commands commands-fit i) c)
 
 -- ---- every verdict fits
 
-pub recognised-fits : (a : ℕ) (c : List ℕ) → FitVerdict (recognised a c) c
+pub recognised-fits : (s : Switch) (a : ℕ) (c : List ℕ) → FitVerdict (recognised s a c) c
 unfolding recognised
-recognised-fits a c = judged-fits _ (sought commands c) c (λ t. sought-fits c)
+recognised-fits s a c = judged-fits _ (sought s commands c) c (λ t. sought-fits s c)

@@ -8,3 +8,4 @@ pub mod Unjudged
 pub mod Following
 pub mod FirstCheck
 pub mod Parts
+pub mod Sealing

@@ -9,6 +9,7 @@ use Rattle.image.specs.declared.cell.Named.{Named}
 use Rattle.image.specs.declared.cell.Named.the-variants as Named′
 use Rattle.rules.specs.declared.rule.Found.{Found}
 use Rattle.rules.specs.declared.rule.Found.the-variants as F
+use Rattle.rules.specs.declared.switch.Switch.{Switch}
 use Rattle.rules.specs.declared.verdict.Verdict.{Verdict}
 use Rattle.rules.specs.declared.verdict.Verdict.the-variants.{Refused, Accepted}
 use Rattle.rules.specs.Rules.{byte, namedBy, commands, ruleOf}
@@ -28,15 +29,16 @@ judged-numbered (c ∷ cs) r a n = go (c .passes) (judged-numbered cs r (a .1) n
     go true ih = ih
     go false ih = a .0
 
-found-numbered : (x : Found) (c : List ℕ) → Numbered (triedIf x c)
+found-numbered : (s : Switch) (x : Found) (c : List ℕ) → Numbered (triedIf s x c)
 unfolding tried
-found-numbered F.Nothing c = (lit< tt, lit< tt)
-found-numbered (F.Rule r) c = judged-numbered _ _ ((lit< tt, lit< tt), tt) (go (namedBy (r .names) c))
+found-numbered s F.Nothing c = (lit< tt, lit< tt)
+found-numbered s (F.Rule r) c =
+    judged-numbered _ (tried r c) ((lit< tt, lit< tt), tt) (judged-numbered _ _ ((lit< tt, lit< tt), tt) (go (namedBy (r .names) c)))
   where
     go : (n : Named) → Numbered (triedOn r n c)
     go Named′.Nothing = (lit< tt, lit< tt)
     go (Named′.Cell d) = judged-numbered _ (Accepted (r .echo) (r .act) d) ((lit< tt, lit< tt), tt) tt
 
-pub recognised-numbered : (a : ℕ) (c : List ℕ) → Numbered (recognised a c)
+pub recognised-numbered : (s : Switch) (a : ℕ) (c : List ℕ) → Numbered (recognised s a c)
 unfolding recognised sought
-recognised-numbered a c = judged-numbered _ _ ((lit< tt, lit< tt), tt) (found-numbered (ruleOf (byte c 2) commands) c)
+recognised-numbered s a c = judged-numbered _ _ ((lit< tt, lit< tt), tt) (found-numbered s (ruleOf (byte c 2) commands) c)

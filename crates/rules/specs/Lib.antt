@@ -1,3 +1,4 @@
 pub mod Rules
+pub mod Seal
 pub mod Verdict
 pub mod Fits

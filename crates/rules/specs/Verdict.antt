@@ -1,4 +1,5 @@
--- What a body is found to be: checks 7 to 11 of document 01 ("Refusal numbers"). Assumes nothing.
+-- What a body is found to be: checks 7 to 11 of document 01 ("Refusal numbers"), and check 16 of document 02 (request 11), which comes after 8 and
+-- before 9. Assumes nothing.
 use mathlib.Core.List.{List, [], _∷_}
 use mathlib.Core.Bool.{Bool, true, false}
 use Prim.Native.Nat.{ℕ, _+_}
@@ -10,9 +11,11 @@ use Rattle.image.specs.declared.cell.Named.the-variants as Named′
 use Rattle.rules.specs.declared.rule.Found.{Found}
 use Rattle.rules.specs.declared.rule.Found.the-variants as Found′
 use Rattle.rules.specs.declared.rule.Rule.{Rule}
+use Rattle.rules.specs.declared.switch.Switch.{Switch}
 use Rattle.rules.specs.declared.verdict.Verdict.{Verdict}
 use Rattle.rules.specs.declared.verdict.Verdict.the-variants.{Refused, Accepted}
 use Rattle.rules.specs.Rules.{Command, byte, longOk, namedBy, valuesOk, commands, ruleOf}
+use Rattle.rules.specs.Seal.{lets}
 
 -- check 10 is that the body names something; then the values, check 11
 abbrev pub triedOn : Rule → Named → List ℕ → Verdict
@@ -23,17 +26,17 @@ triedOn r (Named′.Cell d) c = judged Refused (check 11 (valuesOk (r .values) c
 unfoldable pub tried : Rule → List ℕ → Verdict
 tried r c = judged Refused (check 9 (longOk (r .long) (length c + 1)) ∷ []) (triedOn r (namedBy (r .names) c) c)
 
--- check 8: the block serves the command
-abbrev pub triedIf : Found → List ℕ → Verdict
-triedIf Found′.Nothing c = Refused 8
-triedIf (Found′.Rule r) c = tried r c
+-- check 8: the block serves the command; then check 16: the switch lets it, of whatever length and values
+abbrev pub triedIf : Switch → Found → List ℕ → Verdict
+triedIf s Found′.Nothing c = Refused 8
+triedIf s (Found′.Rule r) c = judged Refused (check 16 (lets s (byte c 2)) ∷ []) (tried r c)
 
-unfoldable pub sought : List Command → List ℕ → Verdict
-sought ls c = triedIf (ruleOf (byte c 2) ls) c
+unfoldable pub sought : Switch → List Command → List ℕ → Verdict
+sought s ls c = triedIf s (ruleOf (byte c 2) ls) c
 
 -- check 7: a block answers to its own address, and looks at nothing else of its image
-unfoldable pub recognised : ℕ → List ℕ → Verdict
-recognised a c = judged Refused (check 7 (eqb (byte c 1) a) ∷ []) (sought commands c)
+unfoldable pub recognised : Switch → ℕ → List ℕ → Verdict
+recognised s a c = judged Refused (check 7 (eqb (byte c 1) a) ∷ []) (sought s commands c)
 
 -- what a verdict gives as the number: 0 if the body is accepted
 abbrev pub verdictNumber : Verdict → ℕ

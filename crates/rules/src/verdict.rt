@@ -6,6 +6,8 @@ use crate::rule::Act;
 use crate::rule::Found;
 use crate::rule::Rule;
 use crate::rule::rule_of;
+use crate::switch::Switch;
+use crate::switch::lets_do;
 use crate::values::values_ok;
 use image::Cell;
 use image::Named;
@@ -44,16 +46,22 @@ fn tried(rule: Rule, body: &[u8]) -> Verdict
     }
 }
 
-// Checks 7 to 11: what a block of an address finds a body, without its checksum, to be.
-pub fn recognise(body: &[u8], address: u8) -> Verdict
+// Checks 7 to 11, and 16 behind 8: what a block of an address finds a body, without its checksum, to be as its key switch stands.
+pub fn recognise(body: &[u8], address: u8, switch: Switch) -> Verdict
     requires { ⌜ length (now body) ≤ 132 ⌝ }
-    ensures { λ r. ⌜ r ≡ recognised address (now (body .entry)) ⌝ }
+    ensures { λ r. ⌜ r ≡ recognised switch address (now (body .entry)) ⌝ }
 {
     if byte(body, 1) != address {
         return Verdict::Refused(7);
     }
     match rule_of(byte(body, 2)) {
         Found::Nothing => Verdict::Refused(8),
-        Found::Rule(rule) => tried(rule, body),
+        Found::Rule(rule) => {
+            let act = rule.act;
+            if !lets_do(switch, act) {
+                return Verdict::Refused(16);
+            }
+            tried(rule, body)
+        }
     }
 }

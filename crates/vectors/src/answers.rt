@@ -2,12 +2,13 @@
 use crate::print;
 use libc::STDOUT_FILENO;
 use output::Answer;
+use rules::Switch;
 
 // What outputs are full of beforehand.
 const FILLER: u8 = 0xEE;
 
-// Serves a frame, and prints the number and the reply as the desk program does.
-pub(crate) fn desk(frame: &[u8], image: &mut [u8]) {
+// The desk program's own line.
+fn desk(frame: &[u8], image: &mut [u8]) {
     let mut text = io::buffer();
     let portion = desk_run::run(frame, 0, image, &mut text);
     let n = portion.len;
@@ -17,13 +18,37 @@ pub(crate) fn desk(frame: &[u8], image: &mut [u8]) {
     }
 }
 
+// The same of a sealed block, which the desk program is not.
+fn sealed(frame: &[u8], image: &mut [u8]) {
+    let mut reply = io::buffer();
+    let a = izk::serve(frame, Switch::Sealed, image, &mut reply);
+    let n = a.len;
+    print::start(a.number as usize);
+    if n < 2 {
+        return;
+    }
+    let e = n - 2;
+    if e <= 267 {
+        print::text(b" ");
+        print::text(&reply[0..e]);
+    }
+}
+
+// Serves a frame, and prints the number and the reply as the desk program does.
+pub(crate) fn line(frame: &[u8], switch: Switch, image: &mut [u8]) {
+    match switch {
+        Switch::Unsealed => desk(frame, image),
+        Switch::Sealed => sealed(frame, image),
+    }
+}
+
 // The frame is built from its contents, so that its checksum is right.
-pub(crate) fn contents(bytes: &[u8], image: &mut [u8]) {
+pub(crate) fn contents(bytes: &[u8], switch: Switch, image: &mut [u8]) {
     let mut frame = io::buffer();
     let built = izk::build(bytes, &mut frame);
     let n = built.len;
     if n <= 269 {
-        desk(&frame[0..n], image);
+        line(&frame[0..n], switch, image);
     }
 }
 
@@ -58,7 +83,7 @@ fn show(a: Answer, out: &[u8]) {
 }
 
 // The letter tells which: taking apart, building, or else serving.
-fn answer(letter: u8, s: &[u8], image: &mut [u8], out: &mut [u8]) {
+fn answer(letter: u8, s: &[u8], switch: Switch, image: &mut [u8], out: &mut [u8]) {
     match letter {
         b'a' => {
             let a = izk::take_apart(s, out);
@@ -69,15 +94,15 @@ fn answer(letter: u8, s: &[u8], image: &mut [u8], out: &mut [u8]) {
             show(a, out);
         }
         _ => {
-            let a = izk::serve(s, image, out);
+            let a = izk::serve(s, switch, image, out);
             show(a, out);
         }
     }
 }
 
-pub(crate) fn answer_into(letter: u8, s: &[u8], room: usize, image: &mut [u8]) {
+pub(crate) fn answer_into(letter: u8, s: &[u8], switch: Switch, room: usize, image: &mut [u8]) {
     let mut space = [FILLER; 400];
     if room <= 400 {
-        answer(letter, s, image, &mut space[0..room]);
+        answer(letter, s, switch, image, &mut space[0..room]);
     }
 }

@@ -5,21 +5,24 @@ use crate::images;
 use crate::print;
 use crate::script;
 use image::IMAGE_LENGTH;
+use rules::Switch;
 
-// Between two stops of a line: whether text has begun, whether there was any, and how much of the image buffer the next step is lent.
+// Between two stops of a line: whether text has begun, whether there was any, how much of the image buffer the next step is lent, and how the key
+// switch stands.
 pub struct Turn {
     pub text: bool,
     pub bare: bool,
     pub long: usize,
+    pub switch: Switch,
 }
 
 // A step that prints, by its letter: its number, its bytes and the first two of them, and as much of the image as it is lent.
-fn call(letter: u8, number: u32, bytes: &[u8], a: u8, b: u8, image: &mut [u8]) {
+fn call(letter: u8, number: u32, bytes: &[u8], a: u8, b: u8, switch: Switch, image: &mut [u8]) {
     let n = number as usize;
     match letter {
-        0 => answers::contents(bytes, image),
+        0 => answers::contents(bytes, switch, image),
         b'c' => cells::cell(n, a, b),
-        b'd' => answers::desk(bytes, image),
+        b'd' => answers::line(bytes, switch, image),
         b'g' => images::get(image, n, a),
         b'h' => images::held(image, number),
         b'i' => images::list(image, n),
@@ -27,7 +30,7 @@ fn call(letter: u8, number: u32, bytes: &[u8], a: u8, b: u8, image: &mut [u8]) {
         b'n' => print::start(izk::fresh(image, a) as usize),
         b't' => images::total(image, n),
         b'u' => images::usable(image),
-        _ => answers::answer_into(letter, bytes, n, image),
+        _ => answers::answer_into(letter, bytes, switch, n, image),
     }
 }
 
@@ -35,6 +38,7 @@ fn call(letter: u8, number: u32, bytes: &[u8], a: u8, b: u8, image: &mut [u8]) {
 fn run(s: &[u8], turn: Turn, image: &mut [u8]) -> Turn {
     let bare = turn.bare;
     let long = turn.long;
+    let switch = turn.switch;
     if image.len() < long {
         return turn;
     }
@@ -50,11 +54,24 @@ fn run(s: &[u8], turn: Turn, image: &mut [u8]) -> Turn {
         b'f' => {
             izk::fresh(&mut image[0..long], a);
         }
+        b'k' => {
+            return Turn {
+                text: false,
+                bare,
+                long,
+                switch: if a == 1 {
+                    Switch::Sealed
+                } else {
+                    Switch::Unsealed
+                },
+            };
+        }
         b'l' => {
             return Turn {
                 text: false,
                 bare,
                 long: number as usize,
+                switch,
             };
         }
         b'p' => images::put(image, number as usize, bytes),
@@ -63,7 +80,7 @@ fn run(s: &[u8], turn: Turn, image: &mut [u8]) -> Turn {
             if !bare {
                 print::text(b" = ");
             }
-            call(letter, number, bytes, a, b, &mut image[0..long]);
+            call(letter, number, bytes, a, b, switch, &mut image[0..long]);
         }
     }
     turn
@@ -74,6 +91,7 @@ fn line_start() -> Turn {
         text: false,
         bare: false,
         long: IMAGE_LENGTH,
+        switch: Switch::Unsealed,
     }
 }
 
@@ -82,6 +100,7 @@ fn piece(s: &[u8], stop: u8, turn: Turn, image: &mut [u8]) -> Turn {
     let text = turn.text;
     let bare = turn.bare;
     let long = turn.long;
+    let switch = turn.switch;
     if stop == b'|' {
         if text {
             print::text(s);
@@ -90,6 +109,7 @@ fn piece(s: &[u8], stop: u8, turn: Turn, image: &mut [u8]) -> Turn {
             text: !text,
             bare: true,
             long,
+            switch,
         };
     }
     if !bare {

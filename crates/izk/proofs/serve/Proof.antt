@@ -24,7 +24,7 @@ same-length : tie.Need-same-length
 same-length c = search needs
 
 returns : tie.Need-returns
-returns c = refused-serves _ _ _ 1 (unusable-is-1 heard current _ _ _ (sym (c .before .is-usable .ensures) ∙ not-true _ (c .if1 .taken)))
+returns c = refused-serves _ _ _ _ 1 (unusable-is-1 (heard _) current _ _ _ (sym (c .before .is-usable .ensures) ∙ not-true _ (c .if1 .taken)))
 
 same-length-2 : tie.Need-same-length-2
 same-length-2 c = search needs
@@ -32,7 +32,7 @@ same-length-2 c = search needs
 returns-2 : tie.Need-returns-2
 returns-2 c =
     let u = sym (c .before .before .is-usable .ensures) ∙ not-false _ (c .before .if1 .left) in
-    refused-serves _ _ _ 2 (no-room-is-2 heard current _ _ _ u (c .if2 .taken))
+    refused-serves _ _ _ _ 2 (no-room-is-2 (heard _) current _ _ _ u (c .if2 .taken))
 
 slice-aggregate-take-apart : tie.Need-slice-aggregate-take-apart
 slice-aggregate-take-apart c = search needs
@@ -50,7 +50,7 @@ returns-3 : tie.Need-returns-3
 returns-3 c =
     let t = c .before .before in
     let e = t .before .before in
-    refused-serves _ _ _ _ (taken-refuses _ _ _ _ (lit≤ tt) (t .take-apart .ensures) _ _ (c .if3 .taken) (is-usable e) (e .if2 .left))
+    refused-serves _ _ _ _ _ (taken-refuses _ _ _ _ (lit≤ tt) (t .take-apart .ensures) _ _ _ (c .if3 .taken) (is-usable e) (e .if2 .left))
 
 array-share-prefix-work : tie.Need-array-share-prefix-work
 array-share-prefix-work c = opened _ _ _ _ (lit≤ tt) (c .before .before .take-apart .ensures) (c .if3 .left) .fits
@@ -72,7 +72,7 @@ reply-to-requires : tie.Need-reply-to-requires
 reply-to-requires c κs =
     let v = c .before .before in
     let e = v .before .before .before .before .before .before .before in
-    (rw (v .recognise .ensures) (recognised-fits _ _), is-usable e, e .if2 .left)
+    (rw (v .recognise .ensures) (recognised-fits _ _ _), is-usable e, e .if2 .left)
 
 same-length-4 : tie.Need-same-length-4
 same-length-4 c = search needs
@@ -88,7 +88,7 @@ returns-4 c =
     let t = n .before .before in
     let e = t .before .before in
     let answer = rw (v .recognise .ensures) at (k .reply-to .ensures) in
-    answered-serves _ _ _ _ (lit≤ tt) (t .take-apart .ensures) (n .if3 .left) _ _ _ _ _ (is-usable e) (e .if2 .left) answer
+    answered-serves _ _ _ _ (lit≤ tt) (t .take-apart .ensures) (n .if3 .left) _ _ _ _ _ _ (is-usable e) (e .if2 .left) answer
 
 pub serve-spec : {M : Type 1} → statement M
 serve-spec =

@@ -1,0 +1,20 @@
+-- What a sealed block serves (document 02, request 11): check 16. Assumes nothing.
+use mathlib.Core.Bool.{Bool, true, false, _||_}
+use Prim.Native.Nat.{ℕ}
+use lib.Dec.{eqb}
+use Rattle.rules.specs.declared.rule.Act.{Act}
+use Rattle.rules.specs.declared.rule.Act.the-variants.{Show, Sign, Store}
+use Rattle.rules.specs.declared.switch.Switch.{Switch}
+use Rattle.rules.specs.declared.switch.Switch.the-variants.{Unsealed, Sealed}
+
+-- the switch lets command k be served: sealed, these eight and no other. Whether the block serves it at all is check 8
+unfoldable pub lets : Switch → ℕ → Bool
+lets Unsealed k = true
+lets Sealed k = eqb k 50 || (eqb k 54 || (eqb k 55 || (eqb k 60 || (eqb k 61 || (eqb k 63 || (eqb k 64 || eqb k 78))))))
+
+-- it lets an act be done. Of the fourteen commands this comes to the same
+abbrev pub letsDo : Switch → Act → Bool
+letsDo Unsealed a = true
+letsDo Sealed Show = true
+letsDo Sealed Sign = true
+letsDo Sealed (Store k) = false
