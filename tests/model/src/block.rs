@@ -77,6 +77,7 @@ pub enum Refusal {
     BodyLength = 9,
     Item = 10,
     Value = 11,
+    Sealed = 16,
 }
 
 impl Refusal {
@@ -85,8 +86,21 @@ impl Refusal {
     }
 }
 
+/// Document 02, request 11: the position of the key switch. It comes with each
+/// call to serve and is stored nowhere.
+#[derive(Clone, Copy, Debug, PartialEq, Eq)]
+pub enum Switch {
+    Unsealed,
+    Sealed,
+}
+
 /// Serves one frame on the image and gives the length of the reply frame.
-pub fn serve(image: &mut [u8], frame: &[u8], output: &mut [u8]) -> Result<usize, Refusal> {
+pub fn serve(
+    switch: Switch,
+    image: &mut [u8],
+    frame: &[u8],
+    output: &mut [u8],
+) -> Result<usize, Refusal> {
     if !usable(image) {
         return Err(Refusal::Image);
     }
@@ -98,6 +112,9 @@ pub fn serve(image: &mut [u8], frame: &[u8], output: &mut [u8]) -> Result<usize,
     let (address, command) = (contents[0], contents[1]);
     if address != image[ADDRESS] {
         return Err(Refusal::Address);
+    }
+    if switch == Switch::Sealed && writes(command) {
+        return Err(Refusal::Sealed);
     }
     let mut reply = Reply::new(address, command);
     obey(image, command, &contents[2..], &mut reply)?;
@@ -241,6 +258,13 @@ impl Reply {
     fn contents(&self) -> &[u8] {
         &self.bytes[..self.length]
     }
+}
+
+/// Document 02, request 11: the commands that a sealed block refuses 16. That
+/// comes after 8, which no command here can get, and before 9, so neither their
+/// length nor their values have been looked at.
+fn writes(command: u8) -> bool {
+    matches!(command, 51 | 53 | 59 | 62 | 76 | 77)
 }
 
 /// Carries out one command; `data` is what stands between it and the checksum.

@@ -9,8 +9,8 @@ use std::sync::mpsc;
 use std::thread;
 use std::time::Duration;
 
-use crate::coverage::{Came, Coverage};
-use crate::probe::{Probe, Record, Records};
+use crate::coverage::{Before, Came, Coverage};
+use crate::probe::{serving, Probe, Record, Records};
 use crate::{desk, desk_streams, probe_scripts};
 
 /// A program that takes longer than this is stopped and has failed.
@@ -110,6 +110,8 @@ fn try_desk(options: &Options, number: usize, coverage: &mut Coverage) -> Result
                 number: number_in(line, 0),
                 line,
                 reply: line.strip_prefix("0 ").unwrap_or_default().as_bytes(),
+                image: &[],
+                before: None,
             });
         }
     }
@@ -128,17 +130,22 @@ fn try_probe(options: &Options, number: usize, coverage: &mut Coverage) -> Resul
     let mut expected = Vec::new();
     let mut probe = Probe::new();
     let fixed = probe_scripts::is_fixed(number);
+    let mut before: Option<Before> = None;
     for record in Records::new(&script) {
         if let Some(line) = probe.step(record) {
             if let Some((call, input)) = call_of(record) {
+                let number = number_in(&line, 1);
                 coverage.count(&Came {
                     call,
                     drawn: !fixed,
                     input: &input,
-                    number: number_in(&line, 1),
+                    number,
                     line: &line,
                     reply: probe.reply(),
+                    image: probe.image(),
+                    before: before.as_ref(),
                 });
+                before = Some((call, number, input));
             }
             expected.push(line);
         }
@@ -151,7 +158,7 @@ fn try_probe(options: &Options, number: usize, coverage: &mut Coverage) -> Resul
 /// The letter of a call and what it is given.
 fn call_of(record: Record) -> Option<(char, Vec<u8>)> {
     Some(match record {
-        Record::Serve(frame) => ('S', frame.to_vec()),
+        Record::Serve(switch, frame) => (serving(switch), frame.to_vec()),
         Record::TakeApart(frame) => ('T', frame.to_vec()),
         Record::Build(contents) => ('B', contents.to_vec()),
         Record::Fresh(address) => ('F', vec![address]),
@@ -188,7 +195,7 @@ fn describe(script: &[u8], line: usize) -> String {
 fn spell(record: Record) -> String {
     match record {
         Record::Fresh(address) => format!("F {address}"),
-        Record::Serve(bytes) => format!("S {}", printable(bytes)),
+        Record::Serve(switch, bytes) => format!("{} {}", serving(switch), printable(bytes)),
         Record::TakeApart(bytes) => format!("T {}", printable(bytes)),
         Record::Build(bytes) => format!("B {}", printable(bytes)),
         Record::Held(table) => format!("H {table}"),

@@ -1,6 +1,7 @@
 //! Counts of what the differential test reached, and what it must reach.
 
 mod checksum;
+mod sealed;
 mod temperatures;
 
 use std::collections::BTreeMap;
@@ -15,9 +16,10 @@ type Call = (char, &'static str, &'static [u8]);
 
 /// The calls that are given a frame. Their numbers must come up for frames
 /// with a small letter as well.
-const OF_FRAMES: [Call; 3] = [
+const OF_FRAMES: [Call; 4] = [
     ('D', "desk", &[0, 3, 4, 5, 6, 7, 8, 9, 10, 11]),
     ('S', "serve", &[0, 1, 2, 3, 4, 5, 6, 7, 8, 9, 10, 11]),
+    ('K', "sealed", &[0, 1, 2, 3, 4, 5, 6, 7, 8, 9, 10, 16]),
     ('T', "take apart", &[0, 2, 3, 4, 5, 6]),
 ];
 
@@ -27,8 +29,11 @@ const OTHERS: [Call; 3] = [
     ('H', "held parts", &[0, 1, 10]),
 ];
 
-/// The served frames that are counted by command: by call, and whether a
-/// letter of theirs is small.
+/// The numbers of what has landed; 12 to 15 belong to other requests.
+const NUMBERS: [u8; 13] = [0, 1, 2, 3, 4, 5, 6, 7, 8, 9, 10, 11, 16];
+
+/// The frames served unsealed that are counted by command: by call, and
+/// whether a letter of theirs is small.
 const SERVED: [(char, bool, &str); 4] = [
     ('D', false, "desk, none small"),
     ('S', false, "serve, none small"),
@@ -48,9 +53,16 @@ pub struct Came<'a> {
     pub line: &'a str,
     /// If it served a frame, the reply without its last two bytes.
     pub reply: &'a [u8],
+    /// The image after it, which for the desk program is not known.
+    pub image: &'a [u8],
+    /// The call before it in its script.
+    pub before: Option<&'a Before>,
 }
 
-/// Something that is counted; the first value is the call's letter.
+/// A call's letter, its number and what it was given.
+pub type Before = (char, u8, Vec<u8>);
+
+/// Something that is counted; the first value is mostly the call's letter.
 #[derive(Clone, Copy, PartialEq, Eq, PartialOrd, Ord)]
 enum Thing {
     /// The number that a call gave.
@@ -76,6 +88,8 @@ enum Thing {
     /// drawn, by that rule's place in `temperatures::WRONG`, and by whether the
     /// table was accepted.
     Misread(char, bool, usize, bool),
+    /// What is counted of the switch; the first value is the command.
+    Switch(u8, sealed::Kind),
 }
 
 /// How often each thing that the test must reach was reached.
@@ -106,7 +120,7 @@ impl Coverage {
             ..
         } = came;
         self.add(Thing::Number(call, number));
-        if matches!(call, 'D' | 'S' | 'T') {
+        if matches!(call, 'D' | 'S' | 'K' | 'T') {
             self.count_letters(call, number, input);
             self.count_sums(call, number, input);
         }
@@ -114,6 +128,7 @@ impl Coverage {
             self.count_command(call, number, input);
             self.count_temperatures(came);
         }
+        self.count_switch(came);
         let seen = (call, input.to_vec(), line.to_string());
         if let Some((_, count)) = self.fixed.get_mut(&seen) {
             *count += 1;
@@ -193,6 +208,7 @@ impl Coverage {
         self.print_misjudged(out)?;
         self.print_tables(out)?;
         self.print_misread(out)?;
+        self.print_switch(out)?;
         let fixed = self.fixed.values();
         let wanted: usize = fixed.clone().map(|(rules, _)| rules.len()).sum();
         let came: usize = fixed.map(|(rules, count)| rules.len().min(*count)).sum();
@@ -203,14 +219,14 @@ impl Coverage {
     }
 
     fn print_numbers(&self, out: &mut impl Write) -> io::Result<()> {
-        print_row(out, "number", 0..=11)?;
+        print_row(out, "number", NUMBERS.map(usize::from))?;
         for (call, name, _) in OF_FRAMES.into_iter().chain(OTHERS) {
-            let counts = (0..=11).map(|number| self.of(Thing::Number(call, number)));
+            let counts = NUMBERS.map(|number| self.of(Thing::Number(call, number)));
             print_row(out, name, counts)?;
         }
         writeln!(out, "\nof these, frames with a small letter")?;
         for (call, name, _) in OF_FRAMES {
-            let counts = (0..=11).map(|number| self.of(Thing::SmallLetter(call, number)));
+            let counts = NUMBERS.map(|number| self.of(Thing::SmallLetter(call, number)));
             print_row(out, name, counts)?;
         }
         Ok(())
@@ -300,7 +316,7 @@ impl Coverage {
 fn print_row(
     out: &mut impl Write,
     name: &str,
-    counts: impl Iterator<Item = usize>,
+    counts: impl IntoIterator<Item = usize>,
 ) -> io::Result<()> {
     write!(out, "{name:<12}")?;
     for count in counts {
@@ -343,6 +359,7 @@ fn wanted() -> Vec<(Thing, String)> {
     wanted.extend(wanted_of_letters());
     wanted.extend(wanted_of_sums());
     wanted.extend(temperatures::wanted());
+    wanted.extend(sealed::wanted());
     wanted
 }
 

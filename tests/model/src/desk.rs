@@ -1,6 +1,6 @@
 //! The desk program: frames in, one line of text out for each.
 
-use crate::block::{self, IMAGE_BYTES};
+use crate::block::{self, Switch, IMAGE_BYTES};
 
 pub const INPUT_MAX: usize = 65_536;
 
@@ -24,8 +24,9 @@ pub fn lines(input: &[u8]) -> Vec<String> {
         .collect()
 }
 
+/// The desk is always unsealed (document 02, request 11).
 fn line(image: &mut [u8], piece: &[u8], output: &mut [u8]) -> String {
-    match block::serve(image, piece, output) {
+    match block::serve(Switch::Unsealed, image, piece, output) {
         Ok(length) => format!("0 {}", String::from_utf8_lossy(&output[..length - 2])),
         Err(refusal) => refusal.number().to_string(),
     }

@@ -4,6 +4,7 @@
 //! come out as written has failed.
 
 mod checksum;
+mod sealed;
 mod small_letters;
 pub mod temperatures;
 
@@ -164,7 +165,7 @@ impl Session {
             let (letter, number, length) = (step.letter, step.number, step.wrote.len());
             let output = digest(&output[..self.output]);
             lines.push(match letter {
-                'S' => format!("S {number} {length} {image_digest} {output}"),
+                'S' | 'K' => format!("{letter} {number} {length} {image_digest} {output}"),
                 'F' => format!("F {number} {image_digest}"),
                 'H' => format!("H {number} 0 0"),
                 _ => format!("{letter} {number} {length} {output}"),
@@ -238,11 +239,16 @@ fn all_sessions() -> Vec<Session> {
     sessions.extend(small_letters::sessions());
     sessions.extend(checksum::sessions());
     sessions.extend(temperatures::sessions());
+    sessions.extend(sealed::sessions());
     sessions
 }
 
 fn serve(rule: &'static str, frame: &[u8]) -> Step {
     Step::new(rule, 'S', frame)
+}
+
+fn serve_sealed(rule: &'static str, frame: &[u8]) -> Step {
+    Step::new(rule, 'K', frame)
 }
 
 fn take_apart(rule: &'static str, frame: &[u8]) -> Step {

@@ -2,7 +2,7 @@
 //! what the desk cannot show (numbers 1 and 2, images, untouched output) is
 //! compared as well.
 
-use crate::block::{self, Refusal, IMAGE_BYTES};
+use crate::block::{self, Refusal, Switch, IMAGE_BYTES};
 
 pub const SCRIPT_MAX: usize = 65_536;
 
@@ -22,7 +22,7 @@ pub enum Record<'a> {
         fill: u8,
     },
     Fresh(u8),
-    Serve(&'a [u8]),
+    Serve(Switch, &'a [u8]),
     TakeApart(&'a [u8]),
     Build(&'a [u8]),
     Held(u32),
@@ -81,7 +81,8 @@ impl<'a> Records<'a> {
                 fill: self.byte()?,
             },
             b'F' => Record::Fresh(self.byte()?),
-            b'S' => Record::Serve(self.counted()?),
+            b'S' => Record::Serve(Switch::Unsealed, self.counted()?),
+            b'K' => Record::Serve(Switch::Sealed, self.counted()?),
             b'T' => Record::TakeApart(self.counted()?),
             b'B' => Record::Build(self.counted()?),
             b'H' => Record::Held(self.number(4)? as u32),
@@ -123,6 +124,11 @@ impl Probe {
         }
     }
 
+    /// The image as the calls see it.
+    pub fn image(&self) -> &[u8] {
+        &self.image[..self.image_length]
+    }
+
     /// What stands in the output before the first 0Dh; after a frame was
     /// served, the reply without its last two bytes.
     pub fn reply(&self) -> &[u8] {
@@ -149,9 +155,10 @@ impl Probe {
                 let number = number(&block::fresh(image, address));
                 return Some(format!("F {number} {}", digest(image)));
             }
-            Record::Serve(frame) => {
-                let answer = spell(block::serve(image, frame, output));
-                return Some(format!("S {answer} {} {}", digest(image), digest(output)));
+            Record::Serve(switch, frame) => {
+                let answer = spell(block::serve(switch, image, frame, output));
+                let (letter, image, output) = (serving(switch), digest(image), digest(output));
+                return Some(format!("{letter} {answer} {image} {output}"));
             }
             Record::TakeApart(frame) => {
                 let answer = spell(block::take_apart(frame, output));
@@ -165,6 +172,14 @@ impl Probe {
             Record::Broken => return Some("?".to_string()),
         }
         None
+    }
+}
+
+/// The letter of the records that serve with the switch in this position.
+pub fn serving(switch: Switch) -> char {
+    match switch {
+        Switch::Unsealed => 'S',
+        Switch::Sealed => 'K',
     }
 }
 

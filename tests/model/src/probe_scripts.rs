@@ -4,8 +4,9 @@
 use crate::fixed::{self, Session, FILL};
 use crate::probe::SCRIPT_MAX;
 use crate::streams::{
-    any_errors, ask, clock, constants, either_case, errors, frame, in_either_case, limit_errors,
-    older_errors, part, piece, session, with_other_sums, Rng, COMMANDS, TEMPERATURES,
+    any_errors, ask, clock, constants, either_case, errors, faulty_data, faulty_frames, frame,
+    good_data, in_either_case, limit_errors, older_errors, part, piece, session, with_other_sums,
+    Rng, COMMANDS, TEMPERATURES, WRITING,
 };
 
 const IMAGE_BYTES: usize = 23_753;
@@ -16,7 +17,7 @@ const TABLES: usize = 1225;
 
 type Case = (&'static str, fn(&mut Rng) -> Script);
 
-const CASES: [Case; 23] = [
+const CASES: [Case; 26] = [
     ("empty", |_| Script::default()),
     ("rows at other addresses", other_addresses),
     ("fresh images", fresh_images),
@@ -40,10 +41,13 @@ const CASES: [Case; 23] = [
     ("records after 65,536 bytes", records_past_end),
     ("other checksums", other_checksums),
     ("error table temperatures", temperatures),
+    ("sealed, every fault", sealed_faults),
+    ("sealed, a look everywhere", sealed_looks),
+    ("sealed, letters and checksums", sealed_texts),
 ];
 
 /// How many scripts `broken` has.
-const BROKEN: usize = 20;
+const BROKEN: usize = 23;
 
 /// A script under construction.
 #[derive(Default)]
@@ -90,6 +94,10 @@ impl Script {
 
     fn serve(&mut self, frame: &[u8]) -> &mut Self {
         self.counted(b'S', frame)
+    }
+
+    fn serve_sealed(&mut self, frame: &[u8]) -> &mut Self {
+        self.counted(b'K', frame)
     }
 
     fn take_apart(&mut self, frame: &[u8]) -> &mut Self {
@@ -258,6 +266,13 @@ fn spoiled_words(_: &mut Rng) -> Script {
 fn unjudged_bytes(rng: &mut Rng) -> Script {
     let mut script = Script::default();
     script.fresh(1);
+    poke_unjudged(&mut script, rng);
+    look_everywhere(&mut script, Script::serve);
+    script.show_all();
+    script
+}
+
+fn poke_unjudged(script: &mut Script, rng: &mut Rng) {
     let mut places: Vec<usize> = (6..WORDS).collect();
     for channel in [0, 3, 7] {
         places.extend((0..83).map(|byte| CONSTANTS + 83 * channel + byte));
@@ -274,22 +289,23 @@ fn unjudged_bytes(rng: &mut Rng) -> Script {
     for (table, count) in [(0, 0), (4, 21), (7, 9)] {
         script.poke(ERRORS + 64 * table, count);
     }
-    look_everywhere(&mut script);
-    script.show_all();
-    script
 }
 
+/// A record that serves a frame, sealed or unsealed.
+type Serving = for<'a> fn(&'a mut Script, &[u8]) -> &'a mut Script;
+
 /// Every reading command on every item.
-fn look_everywhere(script: &mut Script) {
-    script.serve(&ask(1, 50, &[])).serve(&ask(1, 78, &[]));
+fn look_everywhere(script: &mut Script, serve: Serving) {
+    serve(script, &ask(1, 50, &[]));
+    serve(script, &ask(1, 78, &[]));
     for item in 0..=8 {
         for command in [54, 55, 63, 64] {
-            script.serve(&ask(1, command, &[item]));
+            serve(script, &ask(1, command, &[item]));
         }
     }
     for table in (1..=8).chain(11..=18) {
-        script.serve(&ask(1, 61, &[table]));
-        script.serve(&ask(1, 60, &[table, 1 + table % 11]));
+        serve(script, &ask(1, 61, &[table]));
+        serve(script, &ask(1, 60, &[table, 1 + table % 11]));
         script.held(u32::from(table));
     }
 }
@@ -481,7 +497,7 @@ fn each_cell(rng: &mut Rng) -> Script {
         script.serve(&ask(1, 59, &part(rng, table, 1 + table % 11)));
         script.serve(&ask(1, 59, &part(rng, table, 11)));
     }
-    look_everywhere(&mut script);
+    look_everywhere(&mut script, Script::serve);
     script.show_all();
     script
 }
@@ -549,6 +565,94 @@ fn temperatures(rng: &mut Rng) -> Script {
     script
 }
 
+/// Document 02, request 11 for each of the commands: a good frame and each
+/// fault that a call can have, sealed and then unsealed; the longest draw stays
+/// below 65,536 bytes.
+fn sealed_faults(rng: &mut Rng) -> Script {
+    let mut script = Script::default();
+    for address in [1, 0xCE] {
+        script.fresh(address);
+        old_bytes(&mut script, rng);
+        for command in COMMANDS {
+            let good = ask(address, command, &good_data(rng, command));
+            let good = either_case(rng, good);
+            script.output(269, rng.byte());
+            script.serve_sealed(&good).serve(&good).serve_sealed(&good);
+            for data in faulty_data(rng, command) {
+                both_ways(&mut script, rng, &ask(address, command, &data));
+            }
+            before_7(&mut script, rng, address, &good);
+            let elsewhere = ask(!address, command, &good_data(rng, command));
+            both_ways(&mut script, rng, &elsewhere);
+        }
+        for command in [0, 49, 52, 65, 79, 178, 255] {
+            let unknown = ask(address, command, &good_data(rng, 60));
+            both_ways(&mut script, rng, &unknown);
+            before_7(&mut script, rng, address, &unknown);
+            let elsewhere = ask(!address, command, &[]);
+            both_ways(&mut script, rng, &elsewhere);
+        }
+    }
+    script.show_all();
+    script
+}
+
+/// A frame served sealed and then unsealed, each with an output of its own.
+fn both_ways(script: &mut Script, rng: &mut Rng, frame: &[u8]) {
+    let frame = either_case(rng, frame.to_vec());
+    script.output(269, rng.byte()).serve_sealed(&frame);
+    script.output(269, rng.byte()).serve(&frame);
+}
+
+/// Faults of the frame itself, then too short an output, then an image that is
+/// not usable, with the frame as it was.
+fn before_7(script: &mut Script, rng: &mut Rng, address: u8, good: &[u8]) {
+    for frame in faulty_frames(rng, good) {
+        both_ways(script, rng, &frame);
+    }
+    script.output(rng.pick(&[0, 132, 268]), rng.byte());
+    script.serve_sealed(good).output(269, rng.byte());
+    script.poke(5, 0).serve_sealed(good).poke(5, address);
+}
+
+/// Document 02, request 11: everything that is stored is read when sealed, and
+/// stays through sealed writes.
+fn sealed_looks(rng: &mut Rng) -> Script {
+    let mut script = Script::default();
+    script.fresh(1);
+    poke_unjudged(&mut script, rng);
+    look_everywhere(&mut script, Script::serve_sealed);
+    for command in WRITING.repeat(5) {
+        script.serve_sealed(&ask(1, command, &good_data(rng, command)));
+    }
+    look_everywhere(&mut script, Script::serve);
+    script.show_all();
+    script
+}
+
+/// Document 02, request 11: letters in either case and other checksums, as
+/// requests 2 and 4 have them, are read alike when sealed; the longest draw
+/// stays below 65,536 bytes.
+fn sealed_texts(rng: &mut Rng) -> Script {
+    let mut script = Script::default();
+    for address in [0xCE, 0xAB] {
+        script.fresh(address);
+        for command in COMMANDS {
+            for frame in in_either_case(rng, address, command) {
+                script.output(269, rng.byte()).serve_sealed(&frame);
+            }
+            for frame in with_other_sums(rng, address, command) {
+                script.output(269, rng.byte()).serve_sealed(&frame);
+            }
+            // So that later ones meet another image.
+            let good = good_data(rng, command);
+            script.serve(&ask(address, command, &good));
+        }
+    }
+    script.show_all();
+    script
+}
+
 /// One call whose frame brings the script to this size.
 fn filled(size: usize) -> Script {
     let mut script = Script::default();
@@ -568,25 +672,26 @@ fn records_past_end(_: &mut Rng) -> Script {
 /// Each kind of record as a letter alone, then one byte short, then letters
 /// that begin no record.
 fn broken(number: usize) -> Option<Script> {
-    let records: [&[u8]; 8] = [
+    let records: [&[u8]; 9] = [
         b"L\x00\x5C\xC9",
         b"P\x00\x00\x06\x01",
         b"O\x01\x0D\x01",
         b"F\x01",
         b"S\x00\x09:0132CD\r\n",
+        b"K\x00\x09:0132CD\r\n",
         b"T\x00\x09:0132CD\r\n",
         b"B\x00\x02\x01\x32",
         b"H\x00\x00\x00\x01",
     ];
-    let unknown: [&[u8]; 4] = [b"?", b"s\x00\x00", b"\x00", b"\xFF\n"];
+    let unknown: [&[u8]; 5] = [b"?", b"s\x00\x00", b"k\x00\x00", b"\x00", b"\xFF\n"];
     let end = match number {
-        0..=7 => &records[number][..1],
-        8..=15 => &records[number - 8][..records[number - 8].len() - 1],
-        _ => unknown.get(number - 16).copied()?,
+        0..=8 => &records[number][..1],
+        9..=17 => &records[number - 9][..records[number - 9].len() - 1],
+        _ => unknown.get(number - 18).copied()?,
     };
     let mut script = Script::default();
     script.fresh(1).serve(b":0132CD\r\n").0.extend(end);
-    if number >= 16 {
+    if number >= 18 {
         script.held(1); // must not be reached
     }
     Some(script)
@@ -640,7 +745,14 @@ fn old_bytes(script: &mut Script, rng: &mut Rng) {
 
 fn serve_session<'a>(script: &'a mut Script, rng: &mut Rng, address: u8) -> &'a mut Script {
     for contents in session(rng, address) {
-        script.serve(&piece(rng, &contents));
+        let piece = piece(rng, &contents);
+        // A third of these calls are sealed.
+        match rng.below(10) {
+            0 | 1 => script.serve_sealed(&piece),
+            2 => script.serve_sealed(&piece).serve(&piece),
+            3 => script.serve(&piece).serve_sealed(&piece),
+            _ => script.serve(&piece),
+        };
         if rng.percent(10) {
             script.held(rng.below(20) as u32);
         }

@@ -1,10 +1,10 @@
 //! The rows and rules the block is held to, one by one.
 
-use crate::block::{build, fresh, held_parts, serve, take_apart, Refusal, IMAGE_BYTES};
+use crate::block::{build, fresh, held_parts, serve, take_apart, Refusal, Switch, IMAGE_BYTES};
 use crate::fixed::temperatures::RISING;
 use crate::streams::{
-    ask, constants, either_case, errors, frame, older_errors, part, piece, rung, session, Rng,
-    FIELDS,
+    ask, constants, either_case, errors, faulty_data, faulty_frames, frame, good_data,
+    older_errors, part, piece, rung, session, Rng, COMMANDS, FIELDS, READING, WRITING,
 };
 use crate::{desk, desk_streams, fixed, probe, probe_scripts};
 
@@ -14,13 +14,24 @@ fn image_at(address: u8) -> Vec<u8> {
     image
 }
 
-/// Serves a frame; gives the number and the reply up to its line end.
+/// Serves a frame unsealed; gives the number and the reply up to its line end.
 /// Checks on the way that nothing is touched that should not be.
 fn put(image: &mut [u8], frame: &[u8]) -> (u8, String) {
+    put_with(Switch::Unsealed, image, frame)
+}
+
+fn put_sealed(image: &mut [u8], frame: &[u8]) -> (u8, String) {
+    put_with(Switch::Sealed, image, frame)
+}
+
+fn put_with(switch: Switch, image: &mut [u8], frame: &[u8]) -> (u8, String) {
     let before = image.to_vec();
     let mut output = [0x55; 300];
-    match serve(image, frame, &mut output) {
+    match serve(switch, image, frame, &mut output) {
         Ok(length) => {
+            if switch == Switch::Sealed {
+                assert!(image == before, "a sealed call changed the image");
+            }
             assert_eq!(&output[length - 2..length], b"\r\n");
             assert!(output[length..].iter().all(|&byte| byte == 0x55));
             (
@@ -156,6 +167,16 @@ fn error_tables_are_drawn_good_and_older_ones_are_not() {
 fn desk_prints_the_sample() {
     let lines = desk::lines(b":0132CD\r\n:01330FBD\r\n:0132CE\r\n");
     assert_eq!(lines, ["0 :013200CD", "0 :01330FBD", "6"]);
+}
+
+#[test]
+fn desk_is_unsealed() {
+    let mut rng = Rng::new(1, 18);
+    for command in WRITING {
+        let frame = ask(1, command, &good_data(&mut rng, command));
+        let lines = desk::lines(&frame.repeat(2));
+        assert!(lines.iter().all(|line| line.starts_with("0 :01")));
+    }
 }
 
 #[test]
@@ -330,12 +351,124 @@ fn frame_lengths_have_limits() {
 
 #[test]
 fn serving_refuses_in_order() {
-    let mut image = image_at(1);
-    let good = b":0132CD\r\n";
-    assert_eq!(serve(&mut image, good, &mut [0; 268]), Err(Refusal::Output));
-    assert_eq!(serve(&mut image, b"", &mut [0; 268]), Err(Refusal::Output));
-    image[5] = 0;
-    assert_eq!(serve(&mut image, b"", &mut [0; 0]), Err(Refusal::Image));
+    for switch in [Switch::Unsealed, Switch::Sealed] {
+        let mut image = image_at(1);
+        for frame in [":0132CD\r\n", ":01330FBD\r\n", ":0153AC\r\n", ""] {
+            let short = serve(switch, &mut image, frame.as_bytes(), &mut [0; 268]);
+            assert_eq!(short, Err(Refusal::Output));
+        }
+        image[5] = 0;
+        for frame in [":01330FBD\r\n", ""] {
+            let unusable = serve(switch, &mut image, frame.as_bytes(), &mut [0; 0]);
+            assert_eq!(unusable, Err(Refusal::Image));
+        }
+    }
+}
+
+#[test]
+fn sealed_serves_eight_commands_and_refuses_six() {
+    let mut rng = Rng::new(1, 14);
+    for command in 0..=255 {
+        let data = match COMMANDS.contains(&command) {
+            true => good_data(&mut rng, command),
+            false => vec![],
+        };
+        let (unsealed, sealed) = match command {
+            50 | 54 | 55 | 60 | 61 | 63 | 64 | 78 => (0, 0),
+            51 | 53 | 59 | 62 | 76 | 77 => (0, 16),
+            _ => (8, 8),
+        };
+        let (mut image, frame) = (image_at(1), ask(1, command, &data));
+        assert_eq!(put_sealed(&mut image, &frame).0, sealed, "{command}");
+        assert_eq!(put(&mut image, &frame).0, unsealed, "{command}");
+        assert_eq!(put_sealed(&mut image, &frame).0, sealed, "{command}");
+    }
+}
+
+#[test]
+fn sealed_writes_are_refused_whatever_their_data() {
+    let mut rng = Rng::new(1, 15);
+    for command in WRITING {
+        for count in 0..=130 {
+            let frame = ask(1, command, &rng.bytes(count));
+            assert_eq!(put_sealed(&mut image_at(1), &frame), refused(16));
+        }
+    }
+}
+
+/// All that is not refused 16 is answered as it is unsealed on the same image.
+#[test]
+fn sealed_calls_differ_by_16_alone() {
+    let mut rng = Rng::new(1, 16);
+    for address in [1, 0xCE, 0xAF] {
+        let mut image = image_at(address);
+        for _ in 0..1_000 {
+            for contents in session(&mut rng, address) {
+                let text = piece(&mut rng, &contents);
+                let sealed = put_sealed(&mut image, &text);
+                let unsealed = put(&mut image, &text);
+                let mut body = [0; 132];
+                let apart = take_apart(&text, &mut body).is_ok();
+                let writes = apart && body[0] == address && WRITING.contains(&body[1]);
+                let expected = if writes { refused(16) } else { unsealed };
+                assert_eq!(sealed, expected);
+            }
+        }
+    }
+}
+
+#[test]
+fn sealed_refuses_16_after_8_and_before_9() {
+    for (text, outcome) in [
+        (":01330FBD\r", 3),
+        (";01330FBD\r\n", 4),
+        (":01330FgD\r\n", 5),
+        (":01330FBE\r\n", 6),
+        (":02330FBC\r\n", 7),
+        (":01340FBC\r\n", 8),
+        (":0132CD\r\n", 0),
+        (":01320FBE\r\n", 9),
+        (":013608C1\r\n", 10),
+        (":01330FBD\r\n", 16),
+        (":0133CC\r\n", 16),
+        (":013B0901BA\r\n", 16),
+        (":014C01B2\r\n", 16),
+    ] {
+        assert_eq!(put_sealed(&mut image_at(1), text.as_bytes()).0, outcome);
+    }
+}
+
+#[test]
+fn faults_are_drawn_as_promised() {
+    let mut rng = Rng::new(1, 17);
+    for command in COMMANDS.repeat(100) {
+        let good = ask(1, command, &good_data(&mut rng, command));
+        assert_eq!(put(&mut image_at(1), &good).0, 0);
+        for (frame, number) in faulty_frames(&mut rng, &good).iter().zip(3..) {
+            assert_eq!(put(&mut image_at(1), frame).0, number);
+            assert_eq!(put_sealed(&mut image_at(1), frame).0, number);
+        }
+        let mut numbers = Vec::new();
+        for data in faulty_data(&mut rng, command) {
+            let frame = ask(1, command, &data);
+            let number = put(&mut image_at(1), &frame).0;
+            let sealed = match READING.contains(&command) {
+                true => number,
+                false => 16,
+            };
+            assert_eq!(put_sealed(&mut image_at(1), &frame).0, sealed);
+            numbers.push(number);
+        }
+        let expected: &[u8] = match command {
+            50 | 51 | 78 => &[9],
+            53 => &[9, 10, 11, 11],
+            54 | 55 | 61 | 63 | 64 => &[9, 10],
+            59 | 60 => &[9, 10, 10],
+            62 => &[9, 10, 10, 11],
+            _ => &[9, 11],
+        };
+        assert_eq!(numbers, expected, "{command}");
+    }
 }
 
 #[test]
@@ -548,10 +681,24 @@ fn probe_spells_its_answers() {
 }
 
 #[test]
+fn probe_serves_sealed_by_a_letter_of_its_own() {
+    let nothing = b"L\x00\x00\x00O\x00\x00\x00K\x00\x00S\x00\x00k\x00\x00K\x00\x00";
+    assert_eq!(probe::lines(nothing), ["K 1 0 1 1", "S 1 0 1 1", "?"]);
+    let lines = probe::lines(b"F\x01K\x00\x09:0132CD\r\nS\x00\x09:0132CD\r\n");
+    assert_eq!(lines[1].strip_prefix('K'), lines[2].strip_prefix('S'));
+    assert!(lines[1].starts_with("K 0 11 "));
+    let lines = probe::lines(b"F\x01K\x00\x0B:01330FBD\r\nS\x00\x0B:01330FBD\r\n");
+    let fresh = lines[0].rsplit(' ').next().expect("a digest");
+    assert!(lines[1].starts_with(&format!("K 16 0 {fresh} ")));
+    assert!(lines[2].starts_with("S 0 11 "));
+}
+
+#[test]
 fn probe_stops_at_a_record_cut_short() {
     assert!(probe::lines(b"").is_empty());
     assert_eq!(probe::lines(b"H\x00\x00\x00"), ["?"]);
     assert_eq!(probe::lines(b"S\x00\x02a"), ["?"]);
+    assert_eq!(probe::lines(b"K\x00\x02a"), ["?"]);
     let mut long = b"B\xFF\xFD".to_vec();
     long.resize(65_536, 0);
     assert_eq!(probe::lines(&long).len(), 1);

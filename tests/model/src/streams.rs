@@ -10,6 +10,11 @@
 /// The commands served, in rising order.
 pub const COMMANDS: [u8; 14] = [50, 51, 53, 54, 55, 59, 60, 61, 62, 63, 64, 76, 77, 78];
 
+/// Those of them that are served sealed as well (document 02, request 11).
+pub const READING: [u8; 8] = [50, 54, 55, 60, 61, 63, 64, 78];
+/// Those that are refused 16 when sealed.
+pub const WRITING: [u8; 6] = [51, 53, 59, 62, 76, 77];
+
 /// Table numbers at and around the limits.
 pub const TABLES: [u8; 10] = [0, 1, 2, 8, 9, 10, 11, 12, 18, 19];
 /// Part numbers at and around the limits.
@@ -332,6 +337,91 @@ fn data(rng: &mut Rng, command: u8) -> Vec<u8> {
         _ => {}
     }
     data
+}
+
+/// Data for any of the commands, all of it good. An error table has two rows
+/// at the least.
+pub fn good_data(rng: &mut Rng, command: u8) -> Vec<u8> {
+    let channel = rng.between(0, 7);
+    let table = channel + rng.pick(&[1, 11]);
+    let part_number = rng.between(1, 11);
+    match command {
+        50 | 78 => vec![],
+        51 => vec![rng.byte()],
+        53 => constants(rng, channel),
+        54 | 55 => vec![channel],
+        59 => part(rng, table, part_number),
+        60 => vec![table, part_number],
+        61 => vec![table],
+        62 => {
+            let count = rng.between(2, 21);
+            errors(rng, channel + 1, count)
+        }
+        76 => vec![rng.pick(&[0, 255])],
+        77 => clock(rng),
+        _ => vec![channel + 1],
+    }
+}
+
+/// Data for one of the commands with a fault that unsealed is refused 9, then,
+/// where the command can have such, with those that are refused 10 and 11.
+pub fn faulty_data(rng: &mut Rng, command: u8) -> Vec<Vec<u8>> {
+    let good = good_data(rng, command);
+    let with = |place: usize, value| {
+        let mut data = good.clone();
+        data[place] = value;
+        data
+    };
+    let other_length = match good.split_last() {
+        Some((_, shorter)) => shorter.to_vec(),
+        None => vec![rng.byte()],
+    };
+    let mut faulty = vec![other_length];
+    match command {
+        53 => {
+            faulty.push(with(0, rng.between(8, 255)));
+            faulty.push(with(4, rng.pick(&[0, 14, 255])));
+            faulty.push(with(14, rng.between(1, 255))); // body byte 17
+        }
+        54 | 55 => faulty.push(vec![rng.between(8, 255)]),
+        59 | 60 => {
+            faulty.push(with(0, rng.pick(&[0, 9, 10, 19, 255])));
+            faulty.push(with(1, rng.pick(&[0, 12, 255])));
+        }
+        61 => faulty.push(vec![rng.pick(&[0, 9, 10, 19, 255])]),
+        62 => {
+            faulty.push(with(0, rng.pick(&[0, 9, 255])));
+            faulty.push(with(1, good[1] + 1));
+            faulty.push(with(5, good[2])); // the second row like the first
+        }
+        63 | 64 => faulty.push(vec![rng.pick(&[0, 9, 255])]),
+        76 => faulty.push(vec![rng.between(1, 254)]),
+        77 => {
+            let place = rng.below(9);
+            faulty.push(with(place, CLOCK[place].1 + 1));
+        }
+        _ => {}
+    }
+    faulty
+}
+
+/// A good frame with a fault for each of the numbers 3 to 6 in turn.
+pub fn faulty_frames(rng: &mut Rng, good: &[u8]) -> [Vec<u8>; 4] {
+    let last = good.len() - 1;
+    let with = |place: usize, character| {
+        let mut frame = good.to_vec();
+        frame[place] = character;
+        frame
+    };
+    // The command stays as it is, so that the frame is still one of it.
+    let no_digit = rng.pick(&[1, 2, last - 3, last - 2]);
+    let other = if good[last - 2] == b'0' { b'1' } else { b'0' };
+    [
+        good[..last].to_vec(),
+        with(rng.pick(&[0, last - 1, last]), b'0'),
+        with(no_digit, rng.pick(&BESIDE_DIGITS)),
+        with(last - 2, other),
+    ]
 }
 
 /// A few requests that belong together: a write, then reads and signatures

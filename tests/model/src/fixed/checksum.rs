@@ -181,7 +181,7 @@ fn carries() -> Vec<Row> {
 }
 
 /// No image has address 0, so serving refuses a sum of 0 as well.
-fn plain_sums() -> Vec<Row> {
+pub(super) fn plain_sums() -> Vec<Row> {
     vec![
         refused("sum 0", &[0x00, 0x00, 0x00], 7),
         refused("sum 0, the longest body", &[0x00; 133], 7),
@@ -210,7 +210,7 @@ fn plain_sums() -> Vec<Row> {
 
 /// Tests that are not the rule: for each, right frames that it would refuse
 /// and wrong ones that it would take.
-fn wrong_tests() -> Vec<Row> {
+pub(super) fn wrong_tests() -> Vec<Row> {
     let mut rows = vec![
         // The checksum left out of the total.
         mask("contents 34h", [0x01, 0x33, 0x00, 0xCC]),
@@ -303,7 +303,7 @@ fn same_total() -> Vec<Row> {
 
 /// Frames that are refused before their sum is tested, by serving and taking
 /// apart alike.
-fn before(call: OfFrame) -> Vec<Step> {
+pub(super) fn before(call: OfFrame) -> Vec<Step> {
     vec![
         call("no body, sum 0", b":\r\n").refused(3),
         call("a body of 1 byte, sum 0", b":00\r\n").refused(3),

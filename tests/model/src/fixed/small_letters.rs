@@ -315,7 +315,7 @@ fn another_digit(call: OfFrame, place: usize, digit: u8) -> Step {
 
 /// What serving and taking apart refuse alike. The desk joins to a missing
 /// 0Ah what follows it, so that stands last.
-fn bad_frames(call: OfFrame) -> Vec<Step> {
+pub(super) fn bad_frames(call: OfFrame) -> Vec<Step> {
     vec![
         call("3 before 5", b":0132g\r\n").refused(3),
         call("3 before 6", b":0132c\r\n").refused(3),
