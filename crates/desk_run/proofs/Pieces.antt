@@ -42,7 +42,8 @@ pub printed-short : (v : Version) (m p : List ℕ) → length (printed v m p) �
 unfolding printed
 printed-short v m p =
     let a = served (heard Unsealed) v p m (zeros 269) in
-    line-short (a .number) (a .len) (a .out) (number-short (heard Unsealed) (heard-lawful Unsealed) v p m (zeros 269)) (served-long v p m (zeros 269) ∙ length-zeros 269)
+    line-short (a .number) (a .len) (a .out) (number-short (heard Unsealed) (heard-lawful Unsealed) v p m (zeros 269))
+    (served-long v p m (zeros 269) ∙ length-zeros 269)
 
 -- so a line that was laid where 300 bytes were left has not run over
 pub laid-fits : (v : Version) (m p : List ℕ) (at at′ : ℕ) (text text′ : List ℕ) → Laid at at′ text text′ (printed v m p)

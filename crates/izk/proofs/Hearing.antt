@@ -1,4 +1,5 @@
--- What the block hears is lawful, however its switch stands: a frame's checks come before those of its body, and pass on what the body's checks gave. Assumes nothing.
+-- What the block hears is lawful, however its switch stands: a frame's checks come before those of its body, and pass on what the body's checks gave.
+-- Assumes nothing.
 use lib.Dec.{lit<}
 use Rattle.frame.specs.Apart.{contentsOf, frameChecks}
 use Rattle.rules.specs.declared.switch.Switch.{Switch}

@@ -2,7 +2,7 @@
 -- refused 16, and no byte of the image changes. By what the switch changes of a verdict. Assumes nothing.
 use mathlib.Core.Path.{_≡_, refl, sym, ap, _∙_}
 use mathlib.Core.Logic.{_⊎_, inl, inr}
-use mathlib.Core.List.{List, [], _∷_}
+use mathlib.Core.List.{List}
 use mathlib.Core.Bool.{Bool, true, false}
 use Prim.Native.Nat.{ℕ, _≤_}
 use native.Mathlib.Decide.{decLe}
@@ -10,7 +10,7 @@ use native.Mathlib.Omega.{arith}
 use lib.ListN.{length}
 use lib.Dec.{eqb}
 use borrow.Author.Tests.{eq-eqb}
-use Rattle.laws.specs.Checks.{check, judged, AllPass}
+use Rattle.laws.specs.Checks.{judged, AllPass}
 use Rattle.laws.proofs.Tests.{never}
 use Rattle.laws.proofs.Checks.{Judged, passed, failed, judge, judged-passed}
 use Rattle.output.specs.declared.answer.Answer.{Answer}
@@ -34,6 +34,7 @@ use Rattle.izk.specs.Heard.{Hearing, heard, answered}
 use Rattle.izk.specs.Block.{served}
 use Rattle.izk.proofs.Serving.{Way, early, through, way, unusable-is-1, no-room-is-2, served-is, heard-same}
 use Rattle.izk.proofs.Changes.{show-and-sign-change-nothing}
+use Rattle.izk.proofs.OneOutcome.{serve-one-outcome}
 
 -- ---- unsealed
 
@@ -90,13 +91,14 @@ module _ (v : Version) (f m out : List ℕ) where
       ∙ rw (judged-passed Refused (frameChecks f) (recognised Sealed (address m) (contentsOf f)) p, write-refused (address m) (contentsOf f) w, eq-eqb _ _ e)
 
   -- so sealing changes nothing of what a frame gets, or makes it a 16
-  pub sealed-or-16 : (served (heard Sealed) v f m out ≡ served (heard Unsealed) v f m out) ⊎ (served (heard Sealed) v f m out ≡ sent (refusal 16 m) out)
+  abbrev pub ServedOr16 : Type 0
+  ServedOr16 = (served (heard Sealed) v f m out ≡ served (heard Unsealed) v f m out) ⊎ (served (heard Sealed) v f m out ≡ sent (refusal 16 m) out)
+
+  pub sealed-or-16 : ServedOr16
   unfolding answered
   sealed-or-16 = go (usable v m) refl (decLe 269 (length out)) (heard-or-16 (address m) f)
     where
-      go : (t : Bool) → usable v m ≡ t → Dec (269 ≤ length out)
-          → HeardOr16 (address m) f
-          → (served (heard Sealed) v f m out ≡ served (heard Unsealed) v f m out) ⊎ (served (heard Sealed) v f m out ≡ sent (refusal 16 m) out)
+      go : (t : Bool) → usable v m ≡ t → Dec (269 ≤ length out) → HeardOr16 (address m) f → ServedOr16
       go false u r h = inl (unusable-is-1 (heard Sealed) v f m out u ∙ sym (unusable-is-1 (heard Unsealed) v f m out u))
       go true u (no r) h = inl (no-room-is-2 (heard Sealed) v f m out u (omega arith) ∙ sym (no-room-is-2 (heard Unsealed) v f m out u (omega arith)))
       go true u (yes r) (inl h) = inl (heard-same (heard Sealed) (heard Unsealed) v f m out h)
@@ -106,8 +108,7 @@ module _ (v : Version) (f m out : List ℕ) where
   pub sealed-as-unsealed : served (heard Sealed) v f m out .number ≡ 0 → served (heard Sealed) v f m out ≡ served (heard Unsealed) v f m out
   sealed-as-unsealed z = go sealed-or-16
     where
-      go : (served (heard Sealed) v f m out ≡ served (heard Unsealed) v f m out) ⊎ (served (heard Sealed) v f m out ≡ sent (refusal 16 m) out)
-          → served (heard Sealed) v f m out ≡ served (heard Unsealed) v f m out
+      go : ServedOr16 → served (heard Sealed) v f m out ≡ served (heard Unsealed) v f m out
       go (inl e) = e
       go (inr e) = absurd (let y : _≡_ {A = ℕ} 16 0 = sym (ap (λ b. b .number) e) ∙ z in omega arith)
 
@@ -133,6 +134,15 @@ module _ (v : Version) (f m out : List ℕ) where
       go (Accepted e Sign d) h = show-and-sign-change-nothing (heard Sealed) v f m out e d Sign (inr refl) h
       go (Accepted e (Store k) d) h = absurd (never (heard-let Sealed (address m) f h))
 
--- so a sealed call of the block, by its promise, leaves every byte
-pub sealed-call-leaves : (f m out : List ℕ) (r : Answer) (m′ o : List ℕ) → Serves (served (heard Sealed) current f m out) r m′ o → m′ ≡ m
-sealed-call-leaves f m out r m′ o x = x .image-is ∙ sealed-leaves-image current f m out
+-- ---- so of calls of the block, by its promise
+
+module _ (f m out : List ℕ) (r : Answer) (m′ o : List ℕ) (sealed : Serves (served (heard Sealed) current f m out) r m′ o) where
+  -- a sealed one leaves every byte of the image
+  pub sealed-call-leaves : m′ ≡ m
+  sealed-call-leaves = sealed .image-is ∙ sealed-leaves-image current f m out
+
+  -- one that is served returns and leaves what it does unsealed
+  pub sealed-call-alike : r .number ≡ 0 → (s : Answer) (m″ p : List ℕ) → Serves (served (heard Unsealed) current f m out) s m″ p
+      → (r ≡ s) × (m′ ≡ m″) × (o ≡ p)
+  sealed-call-alike z s m″ p unsealed =
+      serve-one-outcome Unsealed f m out r s m′ m″ o p (rw (sealed-as-unsealed current f m out (sym (sealed .number-is) ∙ z)) at sealed) unsealed

@@ -52,4 +52,5 @@ module _ (ear : Switch → Hearing) (ok : (s : Switch) → Lawful (ear s)) (v : 
 
   pub left-usable : (m : List ℕ) (xs : List Turn) → usable v m ≡ true → usable v (left ear v m xs) ≡ true
   left-usable =
-      by-turns (λ m xs m′. usable v m ≡ true → usable v m′ ≡ true) (λ m u. u) (λ m x xs m′ h u. h (usable-stays (ear (x .switch)) (ok (x .switch)) v (x .frame) m (x .out) u))
+      by-turns (λ m xs m′. usable v m ≡ true → usable v m′ ≡ true) (λ m u. u)
+      (λ m x xs m′ h u. h (usable-stays (ear (x .switch)) (ok (x .switch)) v (x .frame) m (x .out) u))

@@ -88,8 +88,8 @@ same-frames = refl
 pub same-service : SameService (step (heard Unsealed) current) (0, []) (fresh current 1) calls callsAgain other
 unfolding calls partsSent othersSent back fresh lay zeros
 same-service =
-    any-order-serves (heard Unsealed) (heard-lawful Unsealed) current 1 calls callsAgain other (fresh current 1) (is-usable, refl) (reorders-of back other undone redone) same-frames
-    (no-clash-of (heard Unsealed) 1 calls no-two-meet)
+    any-order-serves (heard Unsealed) (heard-lawful Unsealed) current 1 calls callsAgain other (fresh current 1) (is-usable, refl)
+    (reorders-of back other undone redone) same-frames (no-clash-of (heard Unsealed) 1 calls no-two-meet)
 
 -- ---- both orders, computed by the definition alone
 

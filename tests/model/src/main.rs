@@ -72,7 +72,7 @@ fn pass(limit: usize, lines: fn(&[u8]) -> Vec<String>) -> io::Result<bool> {
 
 fn options(mut words: impl Iterator<Item = String>) -> Result<compare::Options, String> {
     let (mut desk, mut probe) = (None, None);
-    let (mut streams, mut seed, mut failures) = (280, 2012, usize::MAX);
+    let (mut streams, mut seed, mut failures) = (310, 2012, usize::MAX);
     let mut prefix = Vec::new();
     while let Some(word) = words.next() {
         if word == "--" {
