@@ -11,4 +11,5 @@ pub mod Turns
 pub mod HeldSince
 pub mod Taking
 pub mod Sealed
+pub mod SealedCalls
 pub mod Refusals

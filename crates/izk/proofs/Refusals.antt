@@ -2,7 +2,7 @@
 use mathlib.Core.Path.{_≡_, refl, sym, ap, _∙_}
 use mathlib.Core.Logic.{_≢_}
 use mathlib.Core.List.{List, [], _∷_, map, List·Memᴰ, List·Memᴰ·head, Memᴰ·append-right, Memᴰ·map}
-use mathlib.Core.Bool.{true, false, cond}
+use mathlib.Core.Bool.{Bool, true, false, cond}
 use Prim.Native.Nat.{ℕ, _*_, _≤_}
 use native.Mathlib.Decide.{ℕ-discrete}
 use native.Mathlib.Omega.{arith}
@@ -22,16 +22,18 @@ use Rattle.image.specs.Usable.{usable, address}
 use Rattle.image.specs.Fresh.{FreshAfter, unfresh, freshChecks, freshened}
 use Rattle.image.specs.Held.{unheld, heldOf, heldChecks, heldParts}
 use Rattle.rules.specs.declared.switch.Switch.{Switch}
-use Rattle.rules.specs.declared.switch.Switch.the-variants.{Unsealed}
+use Rattle.rules.specs.declared.switch.Switch.the-variants.{Unsealed, Sealed}
 use Rattle.rules.specs.declared.verdict.Verdict.{Verdict}
 use Rattle.rules.specs.declared.verdict.Verdict.the-variants.{Refused, Accepted}
-use Rattle.rules.specs.Seal.{lets}
+use Rattle.rules.specs.Rules.{byte}
+use Rattle.rules.specs.Seal.{lets, isWrite}
 use Rattle.rules.specs.Verdict.{recognised, verdictNumber}
 use Rattle.rules.proofs.FirstCheck.{recognised-number}
 use Rattle.command.specs.Reply.{refusal, done, BuffersAfter, sent}
 use Rattle.izk.specs.Heard.{Hearing, heard, answered}
 use Rattle.izk.specs.Block.{served}
 use Rattle.izk.specs.Refusals.{serveChecks, rankOf}
+use Rattle.izk.proofs.Sealed.{others-as-unsealed}
 
 -- ---- first check first: each gives what its list of checks gives
 
@@ -120,7 +122,7 @@ module _ (s : Switch) (v : Version) (f m out : List ℕ) where
         rw (serve-number s v f m out, rank-given)
         (lowest-given (map ranked (serveChecks s v f m out)) _ ranks-rise (gives-first (map ranked (serveChecks s v f m out))) (Memᴰ·map ranked among) fails)
 
--- ---- and unsealed, where there is no 16, by the numbers themselves
+-- ---- the same by the numbers themselves
 
 by-rank : (n k : ℕ) → n ≢ 16 → rankOf n ≤ rankOf k → n ≤ k
 unfolding rankOf
@@ -129,6 +131,25 @@ by-rank n k d h = go (ℕ-discrete k 16) (rw (ne-eqb n 16 d) at h)
     go : Dec (k ≡ 16) → 2 * n ≤ cond (eqb k 16) 17 (2 * k) → n ≤ k
     go (yes e) g = let z : 2 * n ≤ 17 = rw (eq-eqb k 16 e) at g in omega arith
     go (no e) g = let z : 2 * n ≤ 2 * k = rw (ne-eqb k 16 e) at g in omega arith
+
+behind-8 : (k : ℕ) → rankOf 16 ≤ rankOf k → 9 ≤ k
+unfolding rankOf
+behind-8 k h = go (ℕ-discrete k 16)
+  where
+    go : Dec (k ≡ 16) → 9 ≤ k
+    go (yes e) = omega arith
+    go (no e) = let z : 17 ≤ 2 * k = rw (ne-eqb k 16 e) at h in omega arith
+
+module _ (s : Switch) (v : Version) (f m out : List ℕ) {x : Check} (among : List·Memᴰ x (serveChecks s v f m out)) (fails : x .passes ≡ false) where
+  -- a number that is not 16 is the lowest of those that fail
+  pub lowest-but-16 : served (heard s) v f m out .number ≢ 16 → served (heard s) v f m out .number ≤ x .number
+  lowest-but-16 d = by-rank _ _ d (serve-by-rank s v f m out among fails)
+
+  -- and where it is 16, none of 1 to 8 fails
+  pub sixteen-past-8 : served (heard s) v f m out .number ≡ 16 → 9 ≤ x .number
+  sixteen-past-8 e = behind-8 _ (rw e at (serve-by-rank s v f m out among fails))
+
+-- ---- who gets 16
 
 module _ (v : Version) (f m out : List ℕ) where
   passes-16 : all (λ x. cond (eqb (x .number) 16) (x .passes) true) (serveChecks Unsealed v f m out) ≡ true
@@ -145,8 +166,19 @@ module _ (v : Version) (f m out : List ℕ) where
           let passes = all-of (λ x. cond (eqb (x .number) 16) (x .passes) true) passes-16 among in
           never (sym (i .fails) ∙ (rw (eq-eqb (c .number) 16 (sym e ∙ z)) at passes))
 
+  -- so unsealed the number is the lowest, as before there was a switch
   pub serve-lowest : {x : Check} → List·Memᴰ x (serveChecks Unsealed v f m out) → x .passes ≡ false → served (heard Unsealed) v f m out .number ≤ x .number
-  serve-lowest among fails = by-rank _ _ unsealed-never-16 (serve-by-rank Unsealed v f m out among fails)
+  serve-lowest among fails = lowest-but-16 Unsealed v f m out among fails unsealed-never-16
+
+-- a write that is sealed, and no other
+pub sixteen-only : (s : Switch) (v : Version) (f m out : List ℕ) → served (heard s) v f m out .number ≡ 16
+    → (s ≡ Sealed) × (isWrite (byte (contentsOf f) 2) ≡ true)
+sixteen-only Unsealed v f m out e = absurd (unsealed-never-16 v f m out e)
+sixteen-only Sealed v f m out e = (refl, go (isWrite (byte (contentsOf f) 2)) refl)
+  where
+    go : (w : Bool) → isWrite (byte (contentsOf f) 2) ≡ w → w ≡ true
+    go true w = refl
+    go false w = absurd (unsealed-never-16 v f m out (sym (ap (λ b. b .number) (others-as-unsealed v f m out w)) ∙ e))
 
 -- ---- a refusal reports nothing and alters nothing
 

@@ -1,7 +1,7 @@
--- What the key switch does (document 02, request 11): unsealed, the block is as it was before there was one; sealed, a frame is served as unsealed or
--- refused 16, and no byte of the image changes. By what the switch changes of a verdict. Assumes nothing.
+-- What the key switch does (document 02, request 11): unsealed, a frame is heard as before there was one; sealed, it is served as unsealed or refused
+-- 16, and no byte of the image changes. By what the switch changes of a verdict. Assumes nothing.
 use mathlib.Core.Path.{_≡_, refl, sym, ap, _∙_}
-use mathlib.Core.Logic.{_⊎_, inl, inr}
+use mathlib.Core.Logic.{_≢_, _⊎_, inl, inr}
 use mathlib.Core.List.{List}
 use mathlib.Core.Bool.{Bool, true, false}
 use Prim.Native.Nat.{ℕ, _≤_}
@@ -13,10 +13,9 @@ use borrow.Author.Tests.{eq-eqb}
 use Rattle.laws.specs.Checks.{judged, AllPass}
 use Rattle.laws.proofs.Tests.{never}
 use Rattle.laws.proofs.Checks.{Judged, passed, failed, judge, judged-passed}
-use Rattle.output.specs.declared.answer.Answer.{Answer}
 use Rattle.frame.specs.Apart.{contentsOf, frameChecks}
 use Rattle.image.specs.declared.cell.Cell.{Cell}
-use Rattle.image.specs.Version.{Version, current}
+use Rattle.image.specs.Version.{Version}
 use Rattle.image.specs.Usable.{usable, address}
 use Rattle.rules.specs.declared.rule.Act.{Act}
 use Rattle.rules.specs.declared.rule.Act.the-variants.{Show, Sign, Store}
@@ -25,22 +24,18 @@ use Rattle.rules.specs.declared.switch.Switch.the-variants.{Unsealed, Sealed}
 use Rattle.rules.specs.declared.verdict.Verdict.{Verdict}
 use Rattle.rules.specs.declared.verdict.Verdict.the-variants.{Refused, Accepted}
 use Rattle.rules.specs.Rules.{byte}
-use Rattle.rules.specs.Seal.{letsDo}
+use Rattle.rules.specs.Seal.{lets, isWrite, letsDo}
 use Rattle.rules.specs.Verdict.{recognised}
 use Rattle.rules.proofs.Following.{accepted-past}
-use Rattle.rules.proofs.Sealing.{recognisedBefore, unsealed-recognises, isWrite, write-refused, others-recognised, accepted-let}
-use Rattle.command.specs.Reply.{refusal, sent, Serves}
-use Rattle.izk.specs.Heard.{Hearing, heard, answered}
+use Rattle.rules.proofs.Sealing.{unsealed-recognises, write-refused, others-recognised, lets-by-act, accepted-let}
+use Rattle.command.specs.Reply.{refusal, sent}
+use Rattle.izk.specs.Heard.{heard, heardBefore, answered}
 use Rattle.izk.specs.Block.{served}
-use Rattle.izk.proofs.Serving.{Way, early, through, way, unusable-is-1, no-room-is-2, served-is, heard-same}
+use Rattle.izk.proofs.Hearing.{heard-lawful}
+use Rattle.izk.proofs.Serving.{Way, early, through, way, unusable-is-1, no-room-is-2, served-is, heard-same, zero-is-accepted}
 use Rattle.izk.proofs.Changes.{show-and-sign-change-nothing}
-use Rattle.izk.proofs.OneOutcome.{serve-one-outcome}
 
 -- ---- unsealed
-
--- what was heard before there was a switch
-abbrev pub heardBefore : Hearing
-heardBefore a f = judged Refused (frameChecks f) (recognisedBefore a (contentsOf f))
 
 module _ (v : Version) (f m out : List ℕ) where
   pub unsealed-as-before : served (heard Unsealed) v f m out ≡ served heardBefore v f m out
@@ -104,22 +99,34 @@ module _ (v : Version) (f m out : List ℕ) where
       go true u (yes r) (inl h) = inl (heard-same (heard Sealed) (heard Unsealed) v f m out h)
       go true u (yes r) (inr h) = inr (served-is (heard Sealed) v f m out u r ∙ rw h)
 
-  -- a frame that is served sealed has number, reply, output and image as unsealed
-  pub sealed-as-unsealed : served (heard Sealed) v f m out .number ≡ 0 → served (heard Sealed) v f m out ≡ served (heard Unsealed) v f m out
+  -- a frame that is served sealed has number, reply, output and image as unsealed; and so has one that is refused, but not 16
+  pub sealed-as-unsealed : served (heard Sealed) v f m out .number ≢ 16 → served (heard Sealed) v f m out ≡ served (heard Unsealed) v f m out
   sealed-as-unsealed z = go sealed-or-16
     where
       go : ServedOr16 → served (heard Sealed) v f m out ≡ served (heard Unsealed) v f m out
       go (inl e) = e
-      go (inr e) = absurd (let y : _≡_ {A = ℕ} 16 0 = sym (ap (λ b. b .number) e) ∙ z in omega arith)
+      go (inr e) = absurd (z (ap (λ b. b .number) e))
 
--- ---- sealed: the image
+-- ---- what is accepted, and the image
 
--- what is accepted is what the switch lets
-pub heard-let : {e : ℕ} {t : Act} {d : Cell} (s : Switch) (a : ℕ) (f : List ℕ) → heard s a f ≡ Accepted e t d → letsDo s t ≡ true
-unfolding heard
-heard-let s a f h = accepted-let s a (contentsOf f) (accepted-past (frameChecks f) _ h)
+module _ {e : ℕ} {t : Act} {d : Cell} (s : Switch) (a : ℕ) (f : List ℕ) (accepted : heard s a f ≡ Accepted e t d) where
+  -- by its act, and by its number
+  pub heard-let : letsDo s t ≡ true
+  unfolding heard
+  heard-let = accepted-let s a (contentsOf f) (accepted-past (frameChecks f) _ accepted)
+
+  number-let : lets s (byte (contentsOf f) 2) ≡ true
+  number-let =
+      let (r, found) = heard-lawful s .known a f accepted in
+      lets-by-act s _ r found ∙ (rw (heard-lawful s .follows a f r accepted found .acts) at heard-let)
 
 module _ (v : Version) (f m out : List ℕ) where
+  -- sealed, the eight are served and no other
+  pub sealed-serves-eight : served (heard Sealed) v f m out .number ≡ 0 → lets Sealed (byte (contentsOf f) 2) ≡ true
+  sealed-serves-eight z =
+      let (u, room, x) = zero-is-accepted (heard Sealed) (heard-lawful Sealed) v f m out z in
+      number-let Sealed (address m) f (x .verdict)
+
   pub sealed-leaves-image : served (heard Sealed) v f m out .image ≡ m
   unfolding answered
   sealed-leaves-image = go (heard Sealed (address m) f) refl
@@ -133,16 +140,3 @@ module _ (v : Version) (f m out : List ℕ) where
       go (Accepted e Show d) h = show-and-sign-change-nothing (heard Sealed) v f m out e d Show (inl refl) h
       go (Accepted e Sign d) h = show-and-sign-change-nothing (heard Sealed) v f m out e d Sign (inr refl) h
       go (Accepted e (Store k) d) h = absurd (never (heard-let Sealed (address m) f h))
-
--- ---- so of calls of the block, by its promise
-
-module _ (f m out : List ℕ) (r : Answer) (m′ o : List ℕ) (sealed : Serves (served (heard Sealed) current f m out) r m′ o) where
-  -- a sealed one leaves every byte of the image
-  pub sealed-call-leaves : m′ ≡ m
-  sealed-call-leaves = sealed .image-is ∙ sealed-leaves-image current f m out
-
-  -- one that is served returns and leaves what it does unsealed
-  pub sealed-call-alike : r .number ≡ 0 → (s : Answer) (m″ p : List ℕ) → Serves (served (heard Unsealed) current f m out) s m″ p
-      → (r ≡ s) × (m′ ≡ m″) × (o ≡ p)
-  sealed-call-alike z s m″ p unsealed =
-      serve-one-outcome Unsealed f m out r s m′ m″ o p (rw (sealed-as-unsealed current f m out (sym (sealed .number-is) ∙ z)) at sealed) unsealed

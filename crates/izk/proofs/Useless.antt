@@ -21,7 +21,7 @@ use Rattle.image.specs.Fresh.{fresh}
 use Rattle.rules.specs.declared.switch.Switch.{Switch}
 use Rattle.rules.specs.declared.switch.Switch.the-variants.{Unsealed, Sealed}
 use Rattle.rules.specs.Rules.{byte}
-use Rattle.rules.proofs.Sealing.{isWrite}
+use Rattle.rules.specs.Seal.{isWrite}
 use Rattle.command.specs.Reply.{BuffersAfter, replyIn}
 use Rattle.izk.specs.Heard.{heard}
 use Rattle.izk.specs.Block.{served}

@@ -16,6 +16,7 @@ use Rattle.rules.specs.declared.verdict.Verdict.{Verdict}
 use Rattle.rules.specs.declared.verdict.Verdict.the-variants.{Refused, Accepted}
 use Rattle.rules.specs.Rules.{byte, commands, ruleOf}
 use Rattle.rules.specs.Verdict.{recognised}
+use Rattle.rules.specs.Before.{recognisedBefore}
 use Rattle.rules.specs.Fits.{FitVerdict, Numbered, Follows}
 use Rattle.command.specs.Reply.{Outcome, done}
 
@@ -26,6 +27,10 @@ Hearing = ℕ → List ℕ → Verdict
 -- the block's, as its key switch stands: the frame's own checks come first, then those of its body
 unfoldable pub heard : Switch → Hearing
 heard s a f = judged Refused (frameChecks f) (recognised s a (contentsOf f))
+
+-- what was heard before there was a switch: a law says that unsealed it is the same
+abbrev pub heardBefore : Hearing
+heardBefore a f = judged Refused (frameChecks f) (recognisedBefore a (contentsOf f))
 
 -- what the laws of serving ask of a hearing, and all that they know of it
 pub record Lawful (ear : Hearing) : Type 0 where

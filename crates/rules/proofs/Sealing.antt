@@ -20,21 +20,15 @@ use Rattle.rules.specs.declared.switch.Switch.the-variants.{Unsealed, Se
 use Rattle.rules.specs.declared.verdict.Verdict.{Verdict}
 use Rattle.rules.specs.declared.verdict.Verdict.the-variants.{Refused, Accepted}
 use Rattle.rules.specs.Rules.{byte, commands, ruleOf}
-use Rattle.rules.specs.Seal.{lets, letsDo}
+use Rattle.rules.specs.Seal.{lets, isWrite, letsDo}
 use Rattle.rules.specs.Verdict.{tried, triedIf, sought, recognised, ruleFor}
+use Rattle.rules.specs.Before.{triedBefore, recognisedBefore}
 use Rattle.rules.proofs.Fit.{found-tested}
 use Rattle.rules.proofs.Following.{accepted-passes, accepted-past, recognised-known, recognised-follows}
 
 -- ---- unsealed
 
--- what a body was found to be before there was a switch: document 01's checks 7 to 11
-abbrev pub triedBefore : Found → List ℕ → Verdict
-triedBefore F.Nothing c = Refused 8
-triedBefore (F.Rule r) c = tried r c
-
-abbrev pub recognisedBefore : ℕ → List ℕ → Verdict
-recognisedBefore a c = judged Refused (check 7 (eqb (byte c 1) a) ∷ []) (triedBefore (ruleFor c) c)
-
+-- as it was before there was a switch
 pub unsealed-recognises : (a : ℕ) (c : List ℕ) → recognised Unsealed a c ≡ recognisedBefore a c
 unfolding recognised sought lets judged
 unsealed-recognises a c = ap (λ (r : Verdict). judged Refused (check 7 (eqb (byte c 1) a) ∷ []) r) (same (ruleFor c))
@@ -49,11 +43,7 @@ unsealed-lets k = refl
 
 -- ---- sealed: by the command's number
 
--- the commands that document 02 gives number 16 to
-abbrev pub isWrite : ℕ → Bool
-isWrite k = eqb k 51 || (eqb k 53 || (eqb k 59 || (eqb k 62 || (eqb k 76 || eqb k 77))))
-
--- of these each has a rule, and none is let
+-- each of the six has a rule, and none is let
 abbrev Barred : ℕ → Type 0
 Barred k = (r : Rule) × (ruleOf k commands ≡ F.Rule r) × (lets Sealed k ≡ false)
 

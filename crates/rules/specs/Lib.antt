@@ -1,4 +1,5 @@
 pub mod Rules
 pub mod Seal
 pub mod Verdict
+pub mod Before
 pub mod Fits

@@ -43,7 +43,7 @@ abbrev pub verdictNumber : Verdict → ℕ
 verdictNumber (Refused n) = n
 verdictNumber (Accepted e a d) = 0
 
--- ---- checks 8 to 11 as tests of their own: 9 to 11 ask nothing where 8 fails, since there is no rule to ask by
+-- ---- checks 8 to 11 as tests of their own: 9 to 11 ask nothing where 8 fails, since there is no rule to ask by. Check 16 is `lets`
 
 abbrev pub isFound : Found → Bool
 isFound Found′.Nothing = false
