@@ -1,4 +1,4 @@
-// Replying to a body: document 01's number, the reply frame in the output, and the image after it.
+// Replying to a body: its verdict's number, the reply frame in the output, and the image after it.
 use crate::act::leave;
 use crate::act::put_reply;
 use image::Cell;

@@ -1,5 +1,5 @@
 -- What serving a frame changes, for every version of the image and every lawful hearing: a refusal nothing, a show or a signature nothing in
--- the image, a write its own cell. Which of these it is rests on the frame and the image's address. Assumes nothing.
+-- the image, a write its own cell. Which of these it is rests, for one hearing, on the frame and the image's address. Assumes nothing.
 use mathlib.Core.Path.{_≡_, refl, sym, _∙_}
 use mathlib.Core.Logic.{_≢_, _⊎_, inl, inr}
 use mathlib.Core.List.{List}
@@ -33,7 +33,7 @@ use Rattle.izk.specs.Heard.{answered, Hearing, Lawful}
 use Rattle.izk.specs.Block.{served}
 use Rattle.izk.proofs.Serving.{Way, early, through, way, served-is}
 
--- ---- acceptance rests on the frame and the image's address alone
+-- ---- for one hearing, and so for one position of the switch, acceptance rests on the frame and the image's address alone
 
 number-alone : (v : Version) (r : Verdict) (c m m′ : List ℕ) → done v r c m .number ≡ done v r c m′ .number
 number-alone v (Refused n) c m m′ = refl

@@ -4,11 +4,10 @@ use mathlib.Core.Logic.{_≢_}
 use mathlib.Core.List.{List, [], _∷_, map, List·Memᴰ, List·Memᴰ·head, Memᴰ·append-right, Memᴰ·map}
 use mathlib.Core.Bool.{Bool, true, false, cond}
 use Prim.Native.Nat.{ℕ, _*_, _≤_}
-use native.Mathlib.Decide.{ℕ-discrete}
 use native.Mathlib.Omega.{arith}
 use lib.ListN.{length}
 use lib.Dec.{leb, eqb}
-use borrow.Author.Tests.{eq-eqb, ne-eqb}
+use borrow.Author.Tests.{eqb-true, eq-eqb, ne-eqb}
 use Rattle.laws.specs.Checks.{Check, check, judged, firstFailing, Gives, none, one, risingFrom, all}
 use Rattle.laws.proofs.Tests.{never, all-of}
 use Rattle.laws.proofs.Bytes.{lay-none}
@@ -82,32 +81,32 @@ pub lists-numbered : (s : Switch) (v : Version) (f m out c : List ℕ) (a t : �
 unfolding serveChecks frameChecks
 lists-numbered s v f m out c a t = (refl, refl, refl, refl, refl)
 
--- in three of the five they rise; in building they do not, and in serving 16 stands between 8 and 9
-pub lists-rise : (v : Version) (f m out c : List ℕ) (a t : ℕ)
+-- in three of the five they rise; in building 2 stands behind 3, in serving 16 before 9
+pub lists-rise : (s : Switch) (v : Version) (f m out c : List ℕ) (a t : ℕ)
     → (risingFrom 0 (apartChecks f out) ≡ true) × (risingFrom 0 (freshChecks v m a) ≡ true) × (risingFrom 0 (heldChecks v m t) ≡ true)
-    × (risingFrom 0 (buildChecks c out) ≡ false)
-unfolding frameChecks risingFrom
-lists-rise v f m out c a t = (refl, refl, refl, refl)
+    × (risingFrom 0 (buildChecks c out) ≡ false) × (risingFrom 0 (serveChecks s v f m out) ≡ false)
+unfolding serveChecks frameChecks risingFrom
+lists-rise s v f m out c a t = (refl, refl, refl, refl, refl)
 
 -- so in these three no check that fails has a lower number than the one given
 module _ {x : Check} where
   pub take-apart-lowest : (f out : List ℕ) → List·Memᴰ x (apartChecks f out) → x .passes ≡ false → apart f out .number ≤ x .number
-  take-apart-lowest f out = lowest-given (apartChecks f out) _ (lists-rise current f [] out [] 0 0 .0) (take-apart-gives f out)
+  take-apart-lowest f out = lowest-given (apartChecks f out) _ (lists-rise Unsealed current f [] out [] 0 0 .0) (take-apart-gives f out)
 
   pub fresh-lowest : (v : Version) (m : List ℕ) (a : ℕ) → List·Memᴰ x (freshChecks v m a) → x .passes ≡ false → freshened v m a .number ≤ x .number
-  fresh-lowest v m a = lowest-given (freshChecks v m a) _ (lists-rise v [] m [] [] a 0 .1) (fresh-gives v m a)
+  fresh-lowest v m a = lowest-given (freshChecks v m a) _ (lists-rise Unsealed v [] m [] [] a 0 .1) (fresh-gives v m a)
 
   pub held-lowest : (v : Version) (m : List ℕ) (t : ℕ) → List·Memᴰ x (heldChecks v m t) → x .passes ≡ false → heldParts v m t .number ≤ x .number
-  held-lowest v m t = lowest-given (heldChecks v m t) _ (lists-rise v [] m [] [] 0 t .2) (held-gives v m t)
+  held-lowest v m t = lowest-given (heldChecks v m t) _ (lists-rise Unsealed v [] m [] [] 0 t .2) (held-gives v m t)
 
 -- ---- lowest number first, in serving
 
 -- each check with its rank for its number
-abbrev ranked : Check → Check
+abbrev pub ranked : Check → Check
 ranked x = check (rankOf (x .number)) (x .passes)
 
 module _ (s : Switch) (v : Version) (f m out : List ℕ) where
-  ranks-rise : risingFrom 0 (map ranked (serveChecks s v f m out)) ≡ true
+  pub ranks-rise : risingFrom 0 (map ranked (serveChecks s v f m out)) ≡ true
   unfolding serveChecks risingFrom rankOf
   ranks-rise = refl
 
@@ -126,19 +125,19 @@ module _ (s : Switch) (v : Version) (f m out : List ℕ) where
 
 by-rank : (n k : ℕ) → n ≢ 16 → rankOf n ≤ rankOf k → n ≤ k
 unfolding rankOf
-by-rank n k d h = go (ℕ-discrete k 16) (rw (ne-eqb n 16 d) at h)
+by-rank n k d h = go (eqb k 16) refl (rw (ne-eqb n 16 d) at h)
   where
-    go : Dec (k ≡ 16) → 2 * n ≤ cond (eqb k 16) 17 (2 * k) → n ≤ k
-    go (yes e) g = let z : 2 * n ≤ 17 = rw (eq-eqb k 16 e) at g in omega arith
-    go (no e) g = let z : 2 * n ≤ 2 * k = rw (ne-eqb k 16 e) at g in omega arith
+    go : (t : Bool) → eqb k 16 ≡ t → 2 * n ≤ cond t 17 (2 * k) → n ≤ k
+    go true e g = omega (arith, eqb-true k 16 e)
+    go false e g = omega arith
 
 behind-8 : (k : ℕ) → rankOf 16 ≤ rankOf k → 9 ≤ k
 unfolding rankOf
-behind-8 k h = go (ℕ-discrete k 16)
+behind-8 k h = go (eqb k 16) refl h
   where
-    go : Dec (k ≡ 16) → 9 ≤ k
-    go (yes e) = omega arith
-    go (no e) = let z : 17 ≤ 2 * k = rw (ne-eqb k 16 e) at h in omega arith
+    go : (t : Bool) → eqb k 16 ≡ t → 17 ≤ cond t 17 (2 * k) → 9 ≤ k
+    go true e g = omega (arith, eqb-true k 16 e)
+    go false e g = omega arith
 
 module _ (s : Switch) (v : Version) (f m out : List ℕ) {x : Check} (among : List·Memᴰ x (serveChecks s v f m out)) (fails : x .passes ≡ false) where
   -- a number that is not 16 is the lowest of those that fail

@@ -31,17 +31,17 @@ refused-serves s f m out n e = rw e (record { number-is = refl; len-is = refl; i
 
 module _ (f z w : List ℕ) (r : Answer) (room : 132 ≤ length z) (d : Does (apart f z) r w) where
   -- a number that is not 0 is serving's number
-  pub taken-refuses : (k : Switch) (m out : List ℕ) → (r .number ≡ 0 → ⊥) → usable current m ≡ true → 269 ≤ length out
-      → served (heard k) current f m out ≡ sent (refusal (r .number) m) out
+  pub taken-refuses : (s : Switch) (m out : List ℕ) → (r .number ≡ 0 → ⊥) → usable current m ≡ true → 269 ≤ length out
+      → served (heard s) current f m out ≡ sent (refusal (r .number) m) out
   unfolding answered heard
-  taken-refuses k m out n u g = go (taken f z room)
+  taken-refuses s m out n u g = go (taken f z room)
     where
-      go : Taken f z → served (heard k) current f m out ≡ sent (refusal (r .number) m) out
+      go : Taken f z → served (heard s) current f m out ≡ sent (refusal (r .number) m) out
       go (passed p e) = absurd (n (d .number-is ∙ ap (λ a. a .number) e))
-      go (failed n some i e reads) =
-          let h : heard k (address m) f ≡ Refused n = reads Verdict Refused (recognised k (address m) (contentsOf f)) in
-          let s : r .number ≡ n = d .number-is ∙ ap (λ a. a .number) e in
-          served-is (heard k) current f m out u g ∙ rw (h, s)
+      go (failed k some i e reads) =
+          let h : heard s (address m) f ≡ Refused k = reads Verdict Refused (recognised s (address m) (contentsOf f)) in
+          let given : r .number ≡ k = d .number-is ∙ ap (λ a. a .number) e in
+          served-is (heard s) current f m out u g ∙ rw (h, given)
 
   module _ (zero-is : r .number ≡ 0) where
     -- with 0 the checks passed, and the work array holds the contents
@@ -54,7 +54,7 @@ module _ (f z w : List ℕ) (r : Answer) (room : 132 ≤ length z) (d : Does (ap
     opened = go (taken f z room)
       where
         go : Taken f z → Opened
-        go (failed n some i e reads) = absurd (some (sym (ap (λ a. a .number) e) ∙ sym (d .number-is) ∙ zero-is))
+        go (failed k some i e reads) = absurd (some (sym (ap (λ a. a .number) e) ∙ sym (d .number-is) ∙ zero-is))
         go (passed p e) =
             let l = contents-length f p in
             let n : r .len ≡ length (contentsOf f) = d .len-is ∙ ap (λ a. a .len) e in

@@ -1,4 +1,4 @@
--- Serving a frame on a lent image with a lent output: the whole of document 01's refusals, in their order, and what is left in both buffers.
+-- Serving a frame on a lent image with a lent output: all its refusals, in their order, and what is left in both buffers.
 -- Assumes nothing.
 use mathlib.Core.List.{List, [], _∷_}
 use Prim.Native.Nat.{ℕ}

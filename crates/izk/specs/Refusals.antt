@@ -32,6 +32,6 @@ serveChecks s v f m out =
     ∷ (check 11 (valuesFit (contentsOf f))
     ∷ [])))))))))))
 
--- which of two numbers stands first in that order: 16 is behind 8 and before 9
+-- a number's place in that order: 16 is behind 8 and before 9
 unfoldable pub rankOf : ℕ → ℕ
 rankOf n = cond (eqb n 16) 17 (2 * n)

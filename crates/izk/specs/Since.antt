@@ -1,5 +1,5 @@
--- What a list of frames has done to an image, served one after the other, told by the frames' own bytes and the numbers that they were given. The key
--- may be turned between any two. It is what "since the image was fresh" means in document 01 ("The image"). Assumes nothing.
+-- What a list of frames has done to an image, served one after the other, told by the frames' own bytes and the numbers that they were given. The
+-- switch may be turned between any two. It is what "since the image was fresh" means in document 01 ("The image"). Assumes nothing.
 use mathlib.Core.List.{List, [], _∷_}
 use mathlib.Core.Bool.{Bool, false, cond, _&&_, _||_}
 use Prim.Native.Nat.{ℕ, zero, suc, _+_}

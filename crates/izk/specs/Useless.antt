@@ -1,4 +1,5 @@
--- The four useless blocks that document 01 ("How tight the promises are") wants shut out, each by what it would do. Assumes nothing.
+-- The four useless blocks that document 01 ("How tight the promises are") wants shut out, and one that document 02 (request 11) brings, each by what it
+-- would do. Assumes nothing.
 use mathlib.Core.Path.{_≡_}
 use mathlib.Core.Logic.{_≢_}
 use mathlib.Core.List.{List}
@@ -6,6 +7,7 @@ use Prim.Native.Nat.{ℕ, zero, suc, _≤_}
 use lib.ListN.{length}
 use Rattle.image.specs.Version.{current}
 use Rattle.rules.specs.declared.switch.Switch.{Switch}
+use Rattle.rules.specs.declared.switch.Switch.the-variants.{Unsealed, Sealed}
 use Rattle.command.specs.Reply.{refusal, BuffersAfter, sent, replyIn}
 use Rattle.izk.specs.Heard.{heard}
 use Rattle.izk.specs.Block.{served}
@@ -20,7 +22,7 @@ Block = ℕ → Switch → List ℕ → List ℕ → List ℕ → BuffersAfter
 abbrev pub Keeps : Block → Type 0
 Keeps b = (n : ℕ) (s : Switch) (f m out : List ℕ) → b n s f m out ≡ served (heard s) current f m out
 
--- ---- each kind, in one position of the switch: a block is useless too if it is so in that position alone
+-- ---- each kind, in one position of the switch: one that is so in that position alone is useless too, but sealed, to store nothing is what is asked
 
 abbrev pub RefusesAll : Switch → Block → Type 0
 RefusesAll s b = (n : ℕ) (f m out : List ℕ) → b n s f m out .number ≢ 0
@@ -35,6 +37,10 @@ StoresNothing s b = (n : ℕ) (f m out : List ℕ) → b n s f m out .image ≡ 
 -- it serves its first frame and then only sends each frame back, where there is room for it
 abbrev pub EchoesLater : Switch → Block → Type 0
 EchoesLater s b = (n : ℕ) (f m out : List ℕ) → length f ≤ length out → replyIn (b (suc n) s f m out) ≡ f
+
+-- sealed, it gives each frame the number that it has unsealed: who sends a write takes it for stored, whether it was or not
+abbrev pub IgnoresSwitch : Block → Type 0
+IgnoresSwitch b = (n : ℕ) (f m out : List ℕ) → b n Sealed f m out .number ≡ b n Unsealed f m out .number
 
 -- ---- one block of each kind
 
@@ -52,3 +58,6 @@ forgetting n s f m out = let a = served (heard s) current f m out in record { nu
 abbrev pub echoing : Block
 echoing zero s f m out = served (heard s) current f m out
 echoing (suc n) s f m out = sent (record { number = 0; reply = f; image = m }) out
+
+abbrev pub ignoring : Block
+ignoring n s f m out = served (heard Unsealed) current f m out

@@ -46,6 +46,15 @@ judge (c ∷ cs) = go (c .passes) refl (judge cs)
     go true e (failed d f h) = failed d (later e f) (λ A refuse after. rw e (h A refuse after))
     go false e j = failed c (record { before = []; behind = cs; split = refl; passed = tt; fails = e }) (λ A refuse after. rw e)
 
+-- what follows is y or z: then so it is behind any checks, as far as they let it through
+pub judged-either : {A : Type 0} (refuse : ℕ → A) (cs : List Check) (x y z : A) → (x ≡ y) ⊎ (x ≡ z)
+    → (judged refuse cs x ≡ judged refuse cs y) ⊎ (judged refuse cs x ≡ z)
+judged-either {A} refuse cs x y z h = go (judge cs)
+  where
+    go : Judged cs → (judged refuse cs x ≡ judged refuse cs y) ⊎ (judged refuse cs x ≡ z)
+    go (passed p) = rw (judged-passed refuse cs x p, judged-passed refuse cs y p) h
+    go (failed c f reads) = inl (reads A refuse x ∙ sym (reads A refuse y))
+
 -- ---- what a list gives: the number of the first that fails, and no other
 
 pub gives-first : (cs : List Check) → Gives cs (firstFailing cs)

@@ -1,6 +1,6 @@
 -- What tests mean. Assumes nothing.
 use mathlib.Core.Path.{_≡_, refl, ap₂}
-use mathlib.Core.Logic.{_⊎_, inl, inr}
+use mathlib.Core.Logic.{_⊎_, inl, inr, ⊎-elim}
 use mathlib.Core.List.{List, [], _∷_, _++_, List·Memᴰ, List·Memᴰ·cases-cons, List·Memᴰ·not-nil}
 use mathlib.Core.Bool.{Bool, true, false, _&&_, _||_, and-false}
 use Prim.Native.Nat.{ℕ, zero, suc, _+_, _≤_, _<_}
@@ -9,7 +9,7 @@ use native.Mathlib.Numerals.{add-one}
 use native.Mathlib.Omega.{arith}
 use lib.Dec.{leb, eqb}
 use borrow.Author.Tests.{leb-true, le-leb, lt-leb, eqb-true}
-use Rattle.laws.specs.Checks.{within, every, all, same}
+use Rattle.laws.specs.Checks.{within, every, all, among, same}
 
 pub never : _≡_ {A = Bool} false true → ⊥
 never e = let z : _≡_ {A = ℕ} 0 1 = cc in omega arith
@@ -90,6 +90,14 @@ pub all-then : {A : Type 0} (t : A → Bool) (a b : List A) → all t a ≡ true
 unfolding all
 all-then t [] b g h = h
 all-then t (x ∷ a) b g h = let p = and-both (t x) (all t a) g in rw (p .0, all-then t a b (p .1) h)
+
+-- what holds of each of a list holds of a number that is one of them
+pub all-among : (t : ℕ → Bool) (k : ℕ) (ns : List ℕ) → all t ns ≡ true → among k ns ≡ true → t k ≡ true
+unfolding all among
+all-among t k [] h m = absurd (never m)
+all-among t k (n ∷ ns) h m =
+    let p = and-both (t n) (all t ns) h in
+    ⊎-elim (λ e. rw (eqb-true k n e) (p .0)) (all-among t k ns (p .1)) (or-either (eqb k n) (among k ns) m)
 
 -- ---- the same numbers
 

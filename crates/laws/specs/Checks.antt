@@ -1,7 +1,7 @@
 -- Checks, in document 01's sense: each has a refusal number, and the first that fails decides. Assumes nothing.
 use mathlib.Core.Path.{_≡_}
 use mathlib.Core.List.{List, [], _∷_, _++_}
-use mathlib.Core.Bool.{Bool, true, false, cond, _&&_}
+use mathlib.Core.Bool.{Bool, true, false, cond, _&&_, _||_}
 use Prim.Native.Nat.{ℕ, zero, suc}
 use lib.Dec.{leb, ltb, eqb}
 
@@ -59,6 +59,11 @@ every t (suc n) = t n && every t n
 unfoldable pub all : {A : Type 0} → (A → Bool) → List A → Bool
 all t [] = true
 all t (x ∷ l) = t x && all t l
+
+-- a number is one of a list
+unfoldable pub among : ℕ → List ℕ → Bool
+among k [] = false
+among k (n ∷ ns) = eqb k n || among k ns
 
 -- two lists have the same numbers
 unfoldable pub same : List ℕ → List ℕ → Bool

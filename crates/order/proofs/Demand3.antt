@@ -90,7 +90,7 @@ module _ (ear : Hearing) (ok : Lawful ear) (v : Version) (a : ℕ) where
       }
 
   -- a call is answered by its frame; its output's old characters do not show
-  by-frame : (m : List ℕ) (x y : Call) → Good v a m → x .frame ≡ y .frame → step ear v m x ≡ step ear v m y
+  pub by-frame : (m : List ℕ) (x y : Call) → Good v a m → x .frame ≡ y .frame → step ear v m x ≡ step ear v m y
   by-frame m x y g e =
       step-is m x g ∙ ap (λ (f : List ℕ). did v (ear a f) (contentsOf f) m) e ∙ sym (step-is m y g)
 

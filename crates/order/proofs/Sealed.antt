@@ -1,22 +1,36 @@
--- Sealed, no frame writes a cell. So no two clash, and demand 3 holds of any frames in any order. Assumes nothing.
-use mathlib.Core.Path.{_≡_, refl}
+-- Sealed, no frame writes a cell, so no two clash; and no frame changes the image, so any frames can be served in any order. Assumes nothing.
+use mathlib.Core.Path.{_≡_, refl, sym, ap, _∙_}
 use mathlib.Core.Logic.{inl, inr}
-use mathlib.Core.List.{List, [], List·Memᴰ·not-nil}
+use mathlib.Core.List.{List, [], _∷_, List·Memᴰ·not-nil}
+use mathlib.Core.Bool.{Bool, true, false}
 use Prim.Native.Nat.{ℕ}
-use lib.ListN.{length, getD}
+use native.Mathlib.Omega.{arith}
+use lib.ListN.{length}
+use Rattle.laws.specs.Checks.{check}
 use Rattle.laws.proofs.Tests.{never}
-use Rattle.reorder.specs.Reorder.{pick, Reorders, SameService}
+use Rattle.reorder.specs.Reorder.{Commutes, pick, Reorders, SameService}
+use Rattle.reorder.proofs.Order.{any-order}
+use Rattle.reorder.proofs.Readings.{alike-service}
+use Rattle.frame.specs.Apart.{contentsOf, frameChecks}
 use Rattle.image.specs.Version.{Version}
+use Rattle.image.specs.Usable.{usable, address}
 use Rattle.rules.specs.declared.rule.Act.the-variants.{Show, Sign, Store}
 use Rattle.rules.specs.declared.switch.Switch.the-variants.{Sealed}
 use Rattle.rules.specs.declared.verdict.Verdict.{Verdict}
 use Rattle.rules.specs.declared.verdict.Verdict.the-variants.{Refused, Accepted}
-use Rattle.command.specs.Reply.{writesOf}
+use Rattle.rules.specs.Rules.{byte}
+use Rattle.rules.specs.Seal.{isWrite}
+use Rattle.rules.proofs.Following.{accepted-past}
+use Rattle.rules.proofs.Sealing.{write-refused}
+use Rattle.command.specs.Reply.{BuffersAfter, replyIn, readsOf, writesOf}
 use Rattle.izk.specs.Heard.{heard}
 use Rattle.izk.proofs.Hearing.{heard-lawful}
-use Rattle.izk.proofs.Sealed.{heard-let}
-use Rattle.order.specs.Serving.{Call, nothing, framesOf, step, Good, Meets, Clash}
-use Rattle.order.proofs.Demand3.{any-order-serves}
+use Rattle.izk.proofs.Serving.{unusable-is-1}
+use Rattle.izk.proofs.Sealed.{heard-let, sealed-leaves-image}
+use Rattle.order.specs.Serving.{Call, nothing, framesOf, step, Meets, Clash}
+use Rattle.order.proofs.Demand3.{by-frame}
+
+-- ---- cells
 
 pub sealed-writes-nothing : (a : ℕ) (f : List ℕ) → writesOf (heard Sealed a f) ≡ []
 sealed-writes-nothing a f = go (heard Sealed a f) refl
@@ -27,6 +41,18 @@ sealed-writes-nothing a f = go (heard Sealed a f) refl
     go (Accepted e Sign d) h = refl
     go (Accepted e (Store k) d) h = absurd (never (heard-let Sealed a f h))
 
+-- and one of the six, which is refused 16 or by what comes first, reads none either
+pub sealed-write-cells : (a : ℕ) (f : List ℕ) → isWrite (byte (contentsOf f) 2) ≡ true
+    → (readsOf (heard Sealed a f) ≡ []) × (writesOf (heard Sealed a f) ≡ [])
+unfolding heard
+sealed-write-cells a f w = go (heard Sealed a f) refl
+  where
+    go : (r : Verdict) → heard Sealed a f ≡ r → (readsOf r ≡ []) × (writesOf r ≡ [])
+    go (Refused n) h = (refl, refl)
+    go (Accepted e t d) h =
+        let x = accepted-past (check 7 _ ∷ []) (Refused 16) (sym (write-refused a (contentsOf f) w) ∙ accepted-past (frameChecks f) _ h) in
+        absurd (let z : _≡_ {A = ℕ} 0 1 = cc in omega arith)
+
 meets-none : (a : ℕ) (f : List ℕ) (y : Verdict) → ¬ Meets (heard Sealed a f) y
 meets-none a f y (c, w, r) = List·Memᴰ·not-nil (rw (sealed-writes-nothing a f) at w)
 
@@ -34,9 +60,37 @@ pub sealed-no-clash : (a : ℕ) (x y : Call) → ¬ Clash (heard Sealed) a x y
 sealed-no-clash a x y (inl h) = meets-none a (x .frame) (heard Sealed a (y .frame)) h
 sealed-no-clash a x y (inr h) = meets-none a (y .frame) (heard Sealed a (x .frame)) h
 
--- in any order each frame has the number and the reply that it has in the list
-pub sealed-any-order : (v : Version) (a : ℕ) (xs ys : List Call) (o m : List ℕ) → Good v a m → Reorders (length xs) o
-    → framesOf ys ≡ pick [] (framesOf xs) o → SameService (step (heard Sealed) v) (0, []) m xs ys o
-sealed-any-order v a xs ys o m good re frames =
-    any-order-serves (heard Sealed) (heard-lawful Sealed) v a xs ys o m good re frames
-    (λ i j l k. sealed-no-clash a (getD xs i nothing) (getD xs j nothing))
+-- ---- order
+
+module _ (v : Version) where
+  abbrev does : List ℕ → Call → (ℕ × List ℕ) × List ℕ
+  does = step (heard Sealed) v
+
+  still : (m : List ℕ) (x : Call) → does m x .1 ≡ m
+  still m x = sealed-leaves-image v (x .frame) m (x .out)
+
+  commute : (m : List ℕ) (x y : Call) → Commutes does m x y
+  commute m x y =
+      record {
+        first = ap (λ (n : List ℕ). does n x .0) (still m y);
+        second = ap (λ (n : List ℕ). does n y .0) (still m x);
+        state = still (does m x .1) y ∙ still m x ∙ sym (still (does m y .1) x ∙ still m y);
+      }
+
+  -- by its frame, also on an image that is not usable
+  alike : (m : List ℕ) (x y : Call) → x .frame ≡ y .frame → does m x ≡ does m y
+  alike m x y e = go (usable v m) refl
+    where
+      refused : (z : Call) → usable v m ≡ false → does m z ≡ ((1, []), m)
+      refused z u = ap (λ (b : BuffersAfter). ((b .number, replyIn b), b .image)) (unusable-is-1 (heard Sealed) v (z .frame) m (z .out) u)
+
+      go : (t : Bool) → usable v m ≡ t → does m x ≡ does m y
+      go true u = by-frame (heard Sealed) (heard-lawful Sealed) v (address m) m x y (u, refl) e
+      go false u = refused x u ∙ sym (refused y u)
+
+  -- any frames, on any image, usable or not: in any order each has the number and the reply that it has in the list, and the image is the list's
+  pub sealed-any-order : (xs ys : List Call) (o m : List ℕ) → Reorders (length xs) o → framesOf ys ≡ pick [] (framesOf xs) o
+      → SameService (step (heard Sealed) v) (0, []) m xs ys o
+  sealed-any-order xs ys o m re frames =
+      alike-service does (λ m. Unit {0}) (λ m x g. tt) (λ x. x .frame) (λ m x y g e. alike m x y e) nothing (0, []) m xs ys o tt frames
+      (any-order does (λ m. Unit {0}) (λ x y. ⊥) (λ m x g. tt) (λ m x y g n. commute m x y) nothing (0, []) (λ x y c. c) xs o m tt re (λ i j l k c. c))

@@ -31,7 +31,8 @@ nothing = call []
 abbrev pub framesOf : List Call → List (List ℕ)
 framesOf xs = map (λ x. x .frame) xs
 
--- the number and the reply, as it stands in the output; and the image. Characters behind the reply are not spoken of
+-- the number and the reply, as it stands in the output; and the image. Characters behind the reply are not spoken of. The hearing, and so the position
+-- of the switch, is one for all calls of a list (document 02, request 11)
 abbrev pub step : Hearing → Version → List ℕ → Call → (ℕ × List ℕ) × List ℕ
 step ear v m x = let a = served ear v (x .frame) m (x .out) in ((a .number, replyIn a), a .image)
 

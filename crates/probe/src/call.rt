@@ -33,12 +33,7 @@ fn answered(letter: u8, a: Answer) {
     print::number(a.len as u64);
 }
 
-fn serve(letter: u8, frame: &[u8], image: &mut [u8], out: &mut [u8]) {
-    let switch = if letter == b'K' {
-        Switch::Sealed
-    } else {
-        Switch::Unsealed
-    };
+fn serve(letter: u8, switch: Switch, frame: &[u8], image: &mut [u8], out: &mut [u8]) {
     answered(letter, izk::serve(frame, switch, image, out));
     print::bytes(image);
     print::bytes(out);
@@ -84,7 +79,8 @@ fn call(rec: &[u8], image: &mut [u8], out: &mut [u8])
     match letter {
         b'F' => fresh(rec[1], image),
         b'H' => held(rec, image),
-        b'K' | b'S' => serve(letter, &rec[from..], image, out),
+        b'K' => serve(letter, Switch::Sealed, &rec[from..], image, out),
+        b'S' => serve(letter, Switch::Unsealed, &rec[from..], image, out),
         b'T' => take_apart(&rec[from..], out),
         _ => build(&rec[from..], out),
     }

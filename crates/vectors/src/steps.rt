@@ -35,7 +35,7 @@ fn call(letter: u8, number: u32, bytes: &[u8], a: u8, b: u8, switch: Switch, ima
 }
 
 // A step, with what it changes for those behind it in its line.
-fn run(s: &[u8], turn: Turn, image: &mut [u8]) -> Turn {
+fn run(s: &[u8], mut turn: Turn, image: &mut [u8]) -> Turn {
     let bare = turn.bare;
     let long = turn.long;
     let switch = turn.switch;
@@ -66,14 +66,7 @@ fn run(s: &[u8], turn: Turn, image: &mut [u8]) -> Turn {
                 },
             };
         }
-        b'l' => {
-            return Turn {
-                text: false,
-                bare,
-                long: number as usize,
-                switch,
-            };
-        }
+        b'l' => turn.long = number as usize,
         b'p' => images::put(image, number as usize, bytes),
         b'w' => script::fill(image, a),
         _ => {
@@ -96,21 +89,16 @@ fn line_start() -> Turn {
 }
 
 // The text or the step before a stop, and the stop.
-fn piece(s: &[u8], stop: u8, turn: Turn, image: &mut [u8]) -> Turn {
+fn piece(s: &[u8], stop: u8, mut turn: Turn, image: &mut [u8]) -> Turn {
     let text = turn.text;
     let bare = turn.bare;
-    let long = turn.long;
-    let switch = turn.switch;
     if stop == b'|' {
         if text {
             print::text(s);
         }
-        return Turn {
-            text: !text,
-            bare: true,
-            long,
-            switch,
-        };
+        turn.text = !text;
+        turn.bare = true;
+        return turn;
     }
     if !bare {
         print::text(s);

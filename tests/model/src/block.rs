@@ -86,7 +86,7 @@ impl Refusal {
     }
 }
 
-/// Document 02, request 11: the position of the key switch. It comes with each
+/// Document 02, wish 11: the position of the key switch. It comes with each
 /// call to serve and is stored nowhere.
 #[derive(Clone, Copy, Debug, PartialEq, Eq)]
 pub enum Switch {
@@ -133,7 +133,7 @@ pub fn take_apart(frame: &[u8], output: &mut [u8]) -> Result<usize, Refusal> {
 }
 
 /// Writes the frame that carries these contents and gives its length.
-/// The one place where a higher number (3) goes before a lower one (2).
+/// Here a higher number (3) goes before a lower one (2).
 pub fn build(contents: &[u8], output: &mut [u8]) -> Result<usize, Refusal> {
     if !(CONTENTS_MIN..=CONTENTS_MAX).contains(&contents.len()) {
         return Err(Refusal::Length);
@@ -260,7 +260,7 @@ impl Reply {
     }
 }
 
-/// Document 02, request 11: the commands that a sealed block refuses 16. That
+/// Document 02, wish 11: the commands that a sealed block refuses 16. That
 /// comes after 8, which no command here can get, and before 9, so neither their
 /// length nor their values have been looked at.
 fn writes(command: u8) -> bool {

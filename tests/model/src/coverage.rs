@@ -29,7 +29,7 @@ const OTHERS: [Call; 3] = [
     ('H', "held parts", &[0, 1, 10]),
 ];
 
-/// The numbers of what has landed; 12 to 15 belong to other requests.
+/// The numbers that can come up; those between belong to wishes to come.
 const NUMBERS: [u8; 13] = [0, 1, 2, 3, 4, 5, 6, 7, 8, 9, 10, 11, 16];
 
 /// The frames served unsealed that are counted by command: by call, and
@@ -62,7 +62,8 @@ pub struct Came<'a> {
 /// A call's letter, its number and what it was given.
 pub type Before = (char, u8, Vec<u8>);
 
-/// Something that is counted; the first value is mostly the call's letter.
+/// Something that is counted; the first value is the call's letter, of
+/// `Switch` the command.
 #[derive(Clone, Copy, PartialEq, Eq, PartialOrd, Ord)]
 enum Thing {
     /// The number that a call gave.

@@ -24,7 +24,7 @@ pub fn lines(input: &[u8]) -> Vec<String> {
         .collect()
 }
 
-/// The desk is always unsealed (document 02, request 11).
+/// The desk is always unsealed (document 02, wish 11).
 fn line(image: &mut [u8], piece: &[u8], output: &mut [u8]) -> String {
     match block::serve(Switch::Unsealed, image, piece, output) {
         Ok(length) => format!("0 {}", String::from_utf8_lossy(&output[..length - 2])),

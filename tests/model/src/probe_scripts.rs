@@ -565,7 +565,7 @@ fn temperatures(rng: &mut Rng) -> Script {
     script
 }
 
-/// Document 02, request 11 for each of the commands: a good frame and each
+/// Document 02, wish 11 for each of the commands: a good frame and each
 /// fault that a call can have, sealed and then unsealed; the longest draw stays
 /// below 65,536 bytes.
 fn sealed_faults(rng: &mut Rng) -> Script {
@@ -615,7 +615,7 @@ fn before_7(script: &mut Script, rng: &mut Rng, address: u8, good: &[u8]) {
     script.poke(5, 0).serve_sealed(good).poke(5, address);
 }
 
-/// Document 02, request 11: everything that is stored is read when sealed, and
+/// Document 02, wish 11: everything that is stored is read when sealed, and
 /// stays through sealed writes.
 fn sealed_looks(rng: &mut Rng) -> Script {
     let mut script = Script::default();
@@ -630,8 +630,8 @@ fn sealed_looks(rng: &mut Rng) -> Script {
     script
 }
 
-/// Document 02, request 11: letters in either case and other checksums, as
-/// requests 2 and 4 have them, are read alike when sealed; the longest draw
+/// Document 02, wish 11: letters in either case and other checksums, as
+/// wishes 2 and 4 have them, are read alike when sealed; the longest draw
 /// stays below 65,536 bytes.
 fn sealed_texts(rng: &mut Rng) -> Script {
     let mut script = Script::default();

@@ -10,7 +10,7 @@
 /// The commands served, in rising order.
 pub const COMMANDS: [u8; 14] = [50, 51, 53, 54, 55, 59, 60, 61, 62, 63, 64, 76, 77, 78];
 
-/// Those of them that are served sealed as well (document 02, request 11).
+/// Those of them that are served sealed as well (document 02, wish 11).
 pub const READING: [u8; 8] = [50, 54, 55, 60, 61, 63, 64, 78];
 /// Those that are refused 16 when sealed.
 pub const WRITING: [u8; 6] = [51, 53, 59, 62, 76, 77];

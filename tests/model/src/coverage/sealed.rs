@@ -1,4 +1,4 @@
-//! What document 02, request 11 wants reached by drawn calls: sealed, each
+//! What document 02, wish 11 wants reached by drawn calls: sealed, each
 //! number that a command can have, and the same frames unsealed right before
 //! and right after. Fixed calls are not counted here; they are held to lines of
 //! their own.

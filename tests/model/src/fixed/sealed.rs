@@ -1,4 +1,4 @@
-//! Fixed calls of document 02, request 11: a key switch, given with each call
+//! Fixed calls of document 02, wish 11: a key switch, given with each call
 //! and stored nowhere, seals the block. Sealed, 50, 54, 55, 60, 61, 63, 64 and
 //! 78 are served as before, with their own 9 and 10; 51, 53, 59, 62, 76 and 77
 //! are refused 16, after 8 and before 9, whatever their length and values; all

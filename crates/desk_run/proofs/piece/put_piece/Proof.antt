@@ -24,21 +24,24 @@ P d = d .before .before .before .before .before .before .args .piece .now
 abbrev M : tie.After-serve → List ℕ
 M d = d .before .before .before .before .before .before .args .m .now
 
+abbrev Left : tie.After-serve → List ℕ
+Left d = d .serve .last .1 .1 .0
+
 abbrev Out : tie.After-serve → List ℕ
 Out d = d .serve .last .1 .1 .1 .0
 
-promise : (d : tie.After-serve) → Serves (served (heard Unsealed) current (P d) (M d) (zeros 269)) (d .serve .result) (d .serve .last .1 .1 .0) (Out d)
+promise : (d : tie.After-serve) → Serves (served (heard Unsealed) current (P d) (M d) (zeros 269)) (d .serve .result) (Left d) (Out d)
 unfolding zeros
 promise d = d .serve .ensures
 
 short : (d : tie.After-serve) → d .serve .result .len ≤ 269
-short d = reply-short current (P d) (M d) (d .serve .result) (d .serve .last .1 .1 .0) (Out d) (promise d)
+short d = reply-short current (P d) (M d) (d .serve .result) (Left d) (Out d) (promise d)
 
 few : (d : tie.After-serve) → d .serve .result .number < 100
-few d = reply-number current (P d) (M d) (d .serve .result) (d .serve .last .1 .1 .0) (Out d) (promise d)
+few d = reply-number current (P d) (M d) (d .serve .result) (Left d) (Out d) (promise d)
 
 long : (d : tie.After-serve) → length (Out d) ≡ 269
-long d = reply-long current (P d) (M d) (d .serve .result) (d .serve .last .1 .1 .0) (Out d) (promise d)
+long d = reply-long current (P d) (M d) (d .serve .result) (Left d) (Out d) (promise d)
 
 slice-aggregate-serve : tie.Need-slice-aggregate-serve
 slice-aggregate-serve c = search needs
@@ -72,7 +75,7 @@ unfolding left
 returns c =
     let l = c .before .before in
     let d = l .before .before .before .before .before .before in
-    let e = line-is current (P d) (M d) (d .serve .result) (d .serve .last .1 .1 .0) (Out d) (promise d) in
+    let e = line-is current (P d) (M d) (d .serve .result) (Left d) (Out d) (promise d) in
     (rw e at (l .put-line .ensures), promise d .image-is)
 
 pub put-piece-spec : {M : Type 1} → statement M

@@ -1,13 +1,14 @@
 -- The address first, then the command's rule and what the switch lets: each early return is the check that the definition has there; check 16 goes by
 -- the act. Assumes nothing.
 use mathlib.Core.Path.{sym, ap, _∙_}
+use mathlib.Core.Bool.{true, false}
 use Prim.Native.Nat.{ℕ}
 use borrow.Author.Tests.{eq-eqb, ne-eqb, not-true, not-false}
 use borrow.Author.Needs.{needs}
 use Rattle.laws.specs.Checks.{judged}
 use Rattle.rules.specs.Rules.{commands, ruleOf}
 use Rattle.rules.specs.Verdict.{sought, recognised}
-use Rattle.rules.proofs.Sealing.{shut-refused, let-tried}
+use Rattle.rules.proofs.Sealing.{switched}
 use Rattle.rules.proofs.verdict.recognise.Statement.{statement}
 use Rattle.rules.proofs.verdict.recognise.Tie as tie
 
@@ -40,9 +41,9 @@ returns-2 : tie.Need-returns-2
 returns-2 c =
     let r = c .before .before .before .before .before in
     let l = r .before .before in
-    shut-refused _ _ _ _ (sym (l .before .byte .ensures) ∙ l .if1 .left)
+    switched _ _ _ _ (sym (l .before .byte .ensures) ∙ l .if1 .left)
     (ap (λ (k : ℕ). ruleOf k commands) (sym (r .before .byte2 .ensures)) ∙ sym (r .rule-of .ensures) ∙ c .before .before .before .rule .given .1)
-    (sym (c .before .lets-do .ensures) ∙ not-true _ (c .if2 .taken))
+    false (sym (c .before .lets-do .ensures) ∙ not-true _ (c .if2 .taken))
 
 returns-3 : tie.Need-returns-3
 unfolding recognised sought judged
@@ -62,9 +63,9 @@ returns-4 c =
     let r = e .before .before .before .before .before in
     let l = r .before .before in
     c .tried .ensures
-    ∙ let-tried _ _ _ _ (sym (l .before .byte .ensures) ∙ l .if1 .left)
+    ∙ switched _ _ _ _ (sym (l .before .byte .ensures) ∙ l .if1 .left)
     (ap (λ (k : ℕ). ruleOf k commands) (sym (r .before .byte2 .ensures)) ∙ sym (r .rule-of .ensures) ∙ e .before .before .before .rule .given .1)
-    (sym (e .before .lets-do .ensures) ∙ not-false _ (e .if2 .left))
+    true (sym (e .before .lets-do .ensures) ∙ not-false _ (e .if2 .left))
 
 pub recognise-spec : {M : Type 1} → statement M
 recognise-spec =
