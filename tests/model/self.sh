@@ -99,8 +99,8 @@ planted 'an older table not read' '^  at       record S :013F01BF' probe - "sed 
 # sealed with a length that unsealed is refused 9.
 planted 'a sealed mask refused but written' '^  line     19$' probe - "sed '19s/^K 16 0 ./&9/'"
 planted '16 not before 9' '^  line     22$' probe - "sed '22s/^K 16 0 /K 9 0 /'"
-# Of the paper's rows when sealed, P12 is on line 13, with a reply of 15 bytes, and behind it comes mode FFh.
-planted 'a sealed mode served' '^  at       record K :014CFFB4' probe - "sed '13{/^K 0 15 /{n;s/^K 16 0 /K 0 11 /}}'"
+# Of the paper's rows when sealed, P8 is on line 9, refused 10, and behind it comes P9, with a reply of 15 bytes.
+planted 'a sealed signature refused' '^  at       record K :013D01C1' probe - "sed '9{/^K 10 0 /{n;s/^K 0 15 /K 16 0 /}}'"
 planted 'a bad end of the probe' 'ended with exit status: 3$' probe 3 cat
 echo "self: $passed passed, $failed failed"
 [ "$failed" -eq 0 ]

@@ -3,3 +3,4 @@ pub mod Pieces
 pub mod Ran
 pub mod Started
 pub mod Portions
+pub mod Unsealed

@@ -11,7 +11,7 @@ use Rattle.output.specs.Cursor.{Laid}
 use Rattle.image.specs.Version.{Version}
 use Rattle.rules.specs.declared.switch.Switch.the-variants.{Unsealed}
 use Rattle.command.specs.Reply.{Serves}
-use Rattle.izk.specs.Heard.{heard}
+use Rattle.izk.specs.Heard.{heard, Hearing, Lawful}
 use Rattle.izk.specs.Block.{served}
 use Rattle.izk.proofs.Hearing.{heard-lawful}
 use Rattle.izk.proofs.Serving.{Way, early, through, way, answered-length, number-short}
@@ -19,18 +19,18 @@ use Rattle.desk_run.specs.Line.{lineOf}
 use Rattle.desk_run.specs.Desk.{printed}
 use Rattle.desk_run.proofs.Lines.{line-most}
 
-module _ (v : Version) (f m out : List ℕ) where
-  served-short : served (heard Unsealed) v f m out .len ≤ 269
-  served-short = go (way (heard Unsealed) v f m out)
+module _ (ear : Hearing) (ok : Lawful ear) (v : Version) (f m out : List ℕ) where
+  served-short : served ear v f m out .len ≤ 269
+  served-short = go (way ear v f m out)
     where
-      go : Way (heard Unsealed) v f m out → served (heard Unsealed) v f m out .len ≤ 269
+      go : Way ear v f m out → served ear v f m out .len ≤ 269
       go (early n i e) = rw e (omega arith)
-      go (through u r e) = rw e (answered-length (heard Unsealed) (heard-lawful Unsealed) v f m u)
+      go (through u r e) = rw e (answered-length ear ok v f m u)
 
-  served-long : length (served (heard Unsealed) v f m out .out) ≡ length out
-  served-long = go (way (heard Unsealed) v f m out)
+  served-long : length (served ear v f m out .out) ≡ length out
+  served-long = go (way ear v f m out)
     where
-      go : Way (heard Unsealed) v f m out → length (served (heard Unsealed) v f m out .out) ≡ length out
+      go : Way ear v f m out → length (served ear v f m out .out) ≡ length out
       go (early n i e) = rw e (length-lay _ _ _)
       go (through u r e) = rw e (length-lay _ _ _)
 
@@ -43,7 +43,7 @@ unfolding printed
 printed-short v m p =
     let a = served (heard Unsealed) v p m (zeros 269) in
     line-short (a .number) (a .len) (a .out) (number-short (heard Unsealed) (heard-lawful Unsealed) v p m (zeros 269))
-    (served-long v p m (zeros 269) ∙ length-zeros 269)
+    (served-long (heard Unsealed) (heard-lawful Unsealed) v p m (zeros 269) ∙ length-zeros 269)
 
 -- so a line that was laid where 300 bytes were left has not run over
 pub laid-fits : (v : Version) (m p : List ℕ) (at at′ : ℕ) (text text′ : List ℕ) → Laid at at′ text text′ (printed v m p)
@@ -53,13 +53,13 @@ laid-fits v m p at at′ text text′ l h = omega (arith, printed-short v m p, a
 -- a call that kept the promise of serving
 module _ (v : Version) (p m : List ℕ) (r : Answer) (m′ out : List ℕ) (s : Serves (served (heard Unsealed) v p m (zeros 269)) r m′ out) where
   pub reply-short : r .len ≤ 269
-  reply-short = rw (s .len-is) (served-short v p m (zeros 269))
+  reply-short = rw (s .len-is) (served-short (heard Unsealed) (heard-lawful Unsealed) v p m (zeros 269))
 
   pub reply-number : r .number < 100
   reply-number = rw (s .number-is) (number-short (heard Unsealed) (heard-lawful Unsealed) v p m (zeros 269))
 
   pub reply-long : length out ≡ 269
-  reply-long = ap length (s .out-is) ∙ served-long v p m (zeros 269) ∙ length-zeros 269
+  reply-long = ap length (s .out-is) ∙ served-long (heard Unsealed) (heard-lawful Unsealed) v p m (zeros 269) ∙ length-zeros 269
 
   pub line-is : lineOf (r .number) (take (r .len) out) ≡ printed v m p
   unfolding printed

@@ -366,26 +366,6 @@ fn serving_refuses_in_order() {
 }
 
 #[test]
-fn sealed_serves_eight_commands_and_refuses_six() {
-    let mut rng = Rng::new(1, 14);
-    for command in 0..=255 {
-        let data = match COMMANDS.contains(&command) {
-            true => good_data(&mut rng, command),
-            false => vec![],
-        };
-        let (unsealed, sealed) = match command {
-            50 | 54 | 55 | 60 | 61 | 63 | 64 | 78 => (0, 0),
-            51 | 53 | 59 | 62 | 76 | 77 => (0, 16),
-            _ => (8, 8),
-        };
-        let (mut image, frame) = (image_at(1), ask(1, command, &data));
-        assert_eq!(put_sealed(&mut image, &frame).0, sealed, "{command}");
-        assert_eq!(put(&mut image, &frame).0, unsealed, "{command}");
-        assert_eq!(put_sealed(&mut image, &frame).0, sealed, "{command}");
-    }
-}
-
-#[test]
 fn sealed_writes_are_refused_whatever_their_data() {
     let mut rng = Rng::new(1, 15);
     for command in WRITING {
@@ -414,27 +394,6 @@ fn sealed_calls_differ_by_16_alone() {
                 assert_eq!(sealed, expected);
             }
         }
-    }
-}
-
-#[test]
-fn sealed_refuses_16_after_8_and_before_9() {
-    for (text, outcome) in [
-        (":01330FBD\r", 3),
-        (";01330FBD\r\n", 4),
-        (":01330FgD\r\n", 5),
-        (":01330FBE\r\n", 6),
-        (":02330FBC\r\n", 7),
-        (":01340FBC\r\n", 8),
-        (":0132CD\r\n", 0),
-        (":01320FBE\r\n", 9),
-        (":013608C1\r\n", 10),
-        (":01330FBD\r\n", 16),
-        (":0133CC\r\n", 16),
-        (":013B0901BA\r\n", 16),
-        (":014C01B2\r\n", 16),
-    ] {
-        assert_eq!(put_sealed(&mut image_at(1), text.as_bytes()).0, outcome);
     }
 }
 

@@ -15,8 +15,8 @@ const MODE: usize = 7;
 const CLOCK: usize = 8;
 const LAST_CONSTANTS: usize = 49 + 7 * 83;
 /// Table 12, the second of the additional ones, and its word.
-const TWELFTH_TABLE: usize = FIRST_TABLE + 9 * 1408;
-const TWELFTH_WORD: usize = 35;
+const TABLE_12: usize = FIRST_TABLE + 9 * 1408;
+const WORD_12: usize = 35;
 
 pub fn sessions() -> Vec<Session> {
     vec![
@@ -26,7 +26,6 @@ pub fn sessions() -> Vec<Session> {
         Session::new("sealed, back and forth", back_and_forth()),
         Session::new("sealed, writes and reads", writes_and_reads(as_it_is)),
         Session::new("sealed, small letters", writes_and_reads(small)),
-        Session::new("sealed, both cases", writes_and_reads(every_other_small)),
         Session::new("sealed, 16 before 9", before_9()),
         Session::new("sealed, 16 before 10 and 11", before_10_and_11()),
         Session::new("sealed, 9 and 10 as ever", nine_and_ten()),
@@ -85,9 +84,9 @@ fn writes() -> [Write; 6] {
     let constants = [&[0xAB, 0xCD, 0xEF, 0x0D], &[0; 78][..], &[0xAF]].concat();
     let constants_text = format!(":013507ABCDEF0D{}AFA0", "00".repeat(78));
     let part_text = format!(":013B0C0B{}2D", "AB".repeat(128));
-    let part_offset = TWELFTH_TABLE + 10 * 128;
+    let part_offset = TABLE_12 + 10 * 128;
     let mut part = Write::new(&part_text, ":013B0C0BAD", part_offset, &[0xAB; 128]);
-    part.stored.push((TWELFTH_WORD, vec![0x04, 0x00]));
+    part.stored.push((WORD_12, vec![0x04, 0x00]));
     [
         Write::new(":01330FBD", ":01330FBD", MASK, &[0x0F]),
         Write::new(&constants_text, ":0135CA", LAST_CONSTANTS, &constants),
@@ -238,14 +237,6 @@ fn as_it_is(text: &str) -> String {
 
 fn small(text: &str) -> String {
     text.to_ascii_lowercase()
-}
-
-fn every_other_small(text: &str) -> String {
-    let spell = |(place, character): (usize, char)| match place % 2 {
-        0 => character.to_ascii_lowercase(),
-        _ => character,
-    };
-    text.chars().enumerate().map(spell).collect()
 }
 
 /// All that is stored is shown alike with the switch in either position; it
@@ -594,7 +585,7 @@ fn stored_by_none() -> Session {
     Session::new("sealed, stored by none", steps)
         .holding(MASK, &[0xEE; 11]) // mask, mode and clock
         .holding(LAST_CONSTANTS, &[0xFF; 83])
-        .holding(TWELFTH_TABLE, &[0xFF; 1408])
+        .holding(TABLE_12, &[0xFF; 1408])
         .holding(FIRST_ERRORS + 7 * 64, &[21])
         .holding(FIRST_ERRORS + 7 * 64 + 1, &[0xFF; 63])
 }
