@@ -18,7 +18,6 @@ use Rattle.rules.specs.declared.rule.Found.the-variants as F
 use Rattle.rules.specs.declared.rule.Rule.{Rule}
 use Rattle.rules.specs.declared.switch.Switch.{Switch}
 use Rattle.rules.specs.declared.switch.Switch.the-variants.{Unsealed, Sealed}
-use Rattle.rules.specs.declared.verdict.Verdict.{Verdict}
 use Rattle.rules.specs.declared.verdict.Verdict.the-variants.{Refused, Accepted}
 use Rattle.rules.specs.Rules.{byte, commands, ruleOf}
 use Rattle.rules.specs.Seal.{lets, writing, isWrite, letsDo}
