@@ -95,10 +95,8 @@ planted 'the last of 21 rows not judged' '^  line     259$' desk - "sed '258{/^0
 # In the probe's a line of the fresh image comes first, then eight older tables, four lines for each: read, signed, refused when written, read.
 planted 'an older table refused but written' '^FAILED probe script [0-9]+ \(error table temperatures\)' probe - "sed '4s/^S 11 0 ./&9/'"
 planted 'an older table not read' '^  at       record S :013F01BF' probe - "sed '4{/^S 11 0 /{n;s/^S 0 [0-9]* /S 11 0 /}}'"
-# The first script that is sealed has a line of the fresh image and 17 of command 50. Then a mask is written sealed, unsealed and sealed again, and
-# sealed with a length that unsealed is refused 9.
+# The first script that is sealed has a line of the fresh image and 17 of command 50. Then a mask is written sealed, and unsealed.
 planted 'a sealed mask refused but written' '^  line     19$' probe - "sed '19s/^K 16 0 ./&9/'"
-planted '16 not before 9' '^  line     22$' probe - "sed '22s/^K 16 0 /K 9 0 /'"
 # Of the paper's rows when sealed, P8 is on line 9, refused 10, and behind it comes P9, with a reply of 15 bytes.
 planted 'a sealed signature refused' '^  at       record K :013D01C1' probe - "sed '9{/^K 10 0 /{n;s/^K 0 15 /K 16 0 /}}'"
 planted 'a bad end of the probe' 'ended with exit status: 3$' probe 3 cat
