@@ -27,6 +27,7 @@ module _ (ear : Hearing) (ok : Lawful ear) (v : Version) (f m out : List ℕ) wh
       go (early n i e) = rw e (omega arith)
       go (through u r e) = rw e (answered-length ear ok v f m u)
 
+module _ (ear : Hearing) (v : Version) (f m out : List ℕ) where
   served-long : length (served ear v f m out .out) ≡ length out
   served-long = go (way ear v f m out)
     where
@@ -43,7 +44,7 @@ unfolding printed
 printed-short v m p =
     let a = served (heard Unsealed) v p m (zeros 269) in
     line-short (a .number) (a .len) (a .out) (number-short (heard Unsealed) (heard-lawful Unsealed) v p m (zeros 269))
-    (served-long (heard Unsealed) (heard-lawful Unsealed) v p m (zeros 269) ∙ length-zeros 269)
+    (served-long (heard Unsealed) v p m (zeros 269) ∙ length-zeros 269)
 
 -- so a line that was laid where 300 bytes were left has not run over
 pub laid-fits : (v : Version) (m p : List ℕ) (at at′ : ℕ) (text text′ : List ℕ) → Laid at at′ text text′ (printed v m p)
@@ -59,7 +60,7 @@ module _ (v : Version) (p m : List ℕ) (r : Answer) (m′ out : List ℕ) (s : 
   reply-number = rw (s .number-is) (number-short (heard Unsealed) (heard-lawful Unsealed) v p m (zeros 269))
 
   pub reply-long : length out ≡ 269
-  reply-long = ap length (s .out-is) ∙ served-long (heard Unsealed) (heard-lawful Unsealed) v p m (zeros 269) ∙ length-zeros 269
+  reply-long = ap length (s .out-is) ∙ served-long (heard Unsealed) v p m (zeros 269) ∙ length-zeros 269
 
   pub line-is : lineOf (r .number) (take (r .len) out) ≡ printed v m p
   unfolding printed

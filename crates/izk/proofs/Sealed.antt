@@ -86,7 +86,7 @@ module _ {e : ℕ} {t : Act} {d : Cell} (s : Switch) (a : ℕ) (f : List ℕ) (a
       lets-by-act s _ r found ∙ (rw (heard-lawful s .follows a f r accepted found .acts) at heard-let)
 
 module _ (v : Version) (f m out : List ℕ) where
-  -- sealed, the eight are served and no other
+  -- sealed, nothing but the eight is served
   pub sealed-serves-eight : served (heard Sealed) v f m out .number ≡ 0 → lets Sealed (byte (contentsOf f) 2) ≡ true
   sealed-serves-eight z =
       let (u, room, x) = zero-is-accepted (heard Sealed) (heard-lawful Sealed) v f m out z in

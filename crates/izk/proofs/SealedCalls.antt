@@ -32,7 +32,7 @@ module _ (f m out : List ℕ) (r : Answer) (m′ o : List ℕ) (sealed : Serves 
 sealed-turn-leaves : (v : Version) (m : List ℕ) (x : Turn) → x .switch ≡ Sealed → inTurn heard v m x .image ≡ m
 sealed-turn-leaves v m x e = ap (λ (s : Switch). served (heard s) v (x .frame) m (x .out) .image) e ∙ sealed-leaves-image v (x .frame) m (x .out)
 
--- as long as the key is not turned, the image stays
+-- as long as the block stays sealed, its image stays as it is
 pub sealed-turns-leave : (v : Version) (m : List ℕ) (xs : List Turn) → ((x : Turn) → List·Memᴰ x xs → x .switch ≡ Sealed) → left heard v m xs ≡ m
 unfolding left
 sealed-turns-leave v m [] h = refl
