@@ -26,7 +26,7 @@ fn serve_sealed(frame: &[u8], image: &mut [u8], out: &mut [u8]) -> Answer
     izk::serve(frame, Switch::Sealed, image, out)
 }
 
-// The same of a sealed block, which the desk program is not.
+// What the desk program would print if it were sealed.
 fn sealed(frame: &[u8], image: &mut [u8]) {
     let mut reply = io::buffer();
     let a = serve_sealed(frame, image, &mut reply);
