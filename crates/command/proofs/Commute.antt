@@ -9,11 +9,11 @@ use Rattle.laws.specs.Bytes.{two}
 use Rattle.image.specs.declared.cell.Cell.{Cell}
 use Rattle.image.specs.Version.{Version}
 use Rattle.image.specs.Cell.{offset, extent}
-use Rattle.image.specs.Stored.{stored, FitStore}
 use Rattle.image.proofs.Cells.{size-some}
 use Rattle.image.proofs.UsableFacts.{Usable}
 use Rattle.image.proofs.Stretches.{own-cell, cell-made}
-use Rattle.image.proofs.Elsewhere.{extent-fits, stretch-stays, slice-stays, signature-stays, stored-swap}
+use Rattle.storing.specs.Stored.{stored, FitStore}
+use Rattle.storing.proofs.Elsewhere.{extent-fits, stretch-stays, slice-stays, signature-stays, stored-swap}
 use Rattle.rules.specs.declared.rule.Act.{Act}
 use Rattle.rules.specs.declared.rule.Act.the-variants.{Show, Sign, Store}
 use Rattle.rules.specs.Fits.{Fit}

@@ -17,12 +17,12 @@ use Rattle.image.specs.declared.cell.Cell.the-variants.{Errors}
 use Rattle.image.specs.Version.{current, imageLength}
 use Rattle.image.specs.Cell.{offset, size, extent, isCell, isItem}
 use Rattle.image.specs.Usable.{usable}
-use Rattle.image.specs.Signature.{signature}
-use Rattle.image.specs.Stored.{FitStore}
 use Rattle.image.proofs.Cells.{placed, extent-view, size-some}
 use Rattle.image.proofs.cell.Cell.{the-type}
 use Rattle.image.proofs.UsableFacts.{facts}
-use Rattle.image.proofs.Elsewhere.{extent-fits}
+use Rattle.storing.specs.Signature.{signature}
+use Rattle.storing.specs.Stored.{FitStore}
+use Rattle.storing.proofs.Elsewhere.{extent-fits}
 use Rattle.rules.specs.declared.rule.Act.{Act}
 use Rattle.rules.specs.declared.rule.Act.the-variants.{Show, Sign, Store}
 use Rattle.rules.specs.Fits.{Fit, FitAccepted}

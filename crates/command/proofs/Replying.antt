@@ -17,9 +17,9 @@ use Rattle.image.specs.declared.cell.Cell.{Cell}
 use Rattle.image.specs.Version.{Version, current}
 use Rattle.image.specs.Cell.{offset, extent}
 use Rattle.image.specs.Usable.{usable}
-use Rattle.image.specs.Signature.{signature}
 use Rattle.image.proofs.UsableFacts.{facts, Usable}
-use Rattle.image.proofs.Elsewhere.{extent-fits}
+use Rattle.storing.specs.Signature.{signature}
+use Rattle.storing.proofs.Elsewhere.{extent-fits}
 use Rattle.rules.specs.declared.rule.Act.{Act}
 use Rattle.rules.specs.declared.rule.Act.the-variants.{Show, Sign, Store}
 use Rattle.rules.specs.declared.verdict.Verdict.{Verdict}

@@ -7,8 +7,8 @@ use Rattle.laws.specs.Bytes.{slice, two}
 use Rattle.image.specs.declared.cell.Cell.{Cell}
 use Rattle.image.specs.Version.{Version}
 use Rattle.image.specs.Cell.{offset, extent, cellsOf}
-use Rattle.image.specs.Signature.{signature}
-use Rattle.image.specs.Stored.{stored}
+use Rattle.storing.specs.Signature.{signature}
+use Rattle.storing.specs.Stored.{stored}
 use Rattle.rules.specs.declared.rule.Act.{Act}
 use Rattle.rules.specs.declared.rule.Act.the-variants.{Show, Sign, Store}
 

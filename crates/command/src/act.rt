@@ -39,7 +39,7 @@ fn sign(cell: Cell, m: &[u8], reply: &mut [u8], end: Cursor) -> Cursor
     requires { ⌜ (isItem cell ≡ true) × (usable current (now m) ≡ true) × (end .at + 2 ≤ length (now reply)) ⌝ }
     ensures { λ r. ⌜ Laid (end .at) (r .at) (now (reply .entry)) (now (reply .exit)) (says current Act.Sign cell (now (m .entry))) ⌝ }
 {
-    let sum = image::signature_of(cell, m);
+    let sum = storing::signature_of(cell, m);
     let high = end.put(reply, (sum / 256) as u8);
     high.put(reply, (sum % 256) as u8)
 }
@@ -74,6 +74,6 @@ pub(crate) fn leave(act: Act, cell: Cell, body: &[u8], m: &mut [u8])
     match act {
         Act::Show => {}
         Act::Sign => {}
-        Act::Store(from) => image::store(cell, &body[from..], m),
+        Act::Store(from) => storing::store(cell, &body[from..], m),
     }
 }

@@ -4,3 +4,4 @@ pub mod Ran
 pub mod Started
 pub mod Portions
 pub mod Unsealed
+pub mod Versions

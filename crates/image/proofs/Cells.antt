@@ -15,7 +15,7 @@ use Rattle.laws.proofs.Tests.{and-both, or-either, never, all-of}
 use Rattle.laws.proofs.Bytes.{In}
 use Rattle.image.specs.declared.cell.Cell.{Cell}
 use Rattle.image.specs.declared.cell.Cell.the-variants.{Mask, Mode, Clock, Constants, Errors, Part, Table}
-use Rattle.image.specs.Version.{Version, v1, imageLength}
+use Rattle.image.specs.Version.{Version, v1, v2, imageLength}
 use Rattle.image.specs.Cell.{offset, size, isCell, run, partsFrom, cells, cellsOf, Once, rising, extent}
 use Rattle.image.specs.Words.{Span, words, wordOffset, spanInside, off, inside}
 
@@ -32,6 +32,7 @@ cells-rise = refl
 pub cells-inside : (v : Version) → all (inside v) cells ≡ true
 unfolding cells run partsFrom all inside off
 cells-inside v1 = refl
+cells-inside v2 = refl
 
 cells-are : all isCell cells ≡ true
 unfolding cells run partsFrom all
@@ -87,7 +88,7 @@ cells-once = once cells cells-rise cells-some
 
 -- ---- the list has every cell
 
-run-mem : (f : ℕ → Cell) (k i n : ℕ) → i ≤ k → k < i + n → List·Memᴰ (f k) (run f i n)
+pub run-mem : (f : ℕ → Cell) (k i n : ℕ) → i ≤ k → k < i + n → List·Memᴰ (f k) (run f i n)
 unfolding run
 run-mem f k i zero a b = absurd (omega arith)
 run-mem f k i (suc n) a b = go (ℕ-discrete k i) (λ p. run-mem f k (suc i) n p (omega arith))
@@ -170,6 +171,7 @@ placed v c h =
 words-inside : (v : Version) → all (spanInside v) (words v) ≡ true
 unfolding all spanInside
 words-inside v1 = refl
+words-inside v2 = refl
 
 -- every word lies behind mark, version and address, and inside the image
 pub word-inside : (v : Version) (i : ℕ) → InSpans (words v) i → (6 ≤ i) × (i < imageLength v)
@@ -188,6 +190,7 @@ word-inside v i = go (words v) (words-inside v)
 -- the words of the tables are among them
 pub table-words : (v : Version) (k : ℕ) → k < 16 → (i : ℕ) → In (wordOffset k) 2 i → InSpans (words v) i
 table-words v1 k l i a = inl (omega arith, omega arith)
+table-words v2 k l i a = inl (omega arith, omega arith)
 
 -- so each lies inside
 pub table-word-inside : (v : Version) (k : ℕ) → k < 16 → wordOffset k + 2 ≤ imageLength v

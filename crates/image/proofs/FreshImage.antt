@@ -15,7 +15,7 @@ use Rattle.laws.specs.Checks.{judged}
 use Rattle.laws.specs.Bits.{bit, onesIn}
 use Rattle.laws.proofs.Bytes.{length-zeros, length-lay, lay-at, lay-out, lay-is, zeros-at}
 use Rattle.image.specs.declared.cell.Cell.the-variants.{Errors}
-use Rattle.image.specs.Version.{Version, v1, current, versionNumber, imageLength}
+use Rattle.image.specs.Version.{Version, v1, v2, current, versionNumber, imageLength}
 use Rattle.image.specs.Cell.{isTable, tableIndex, offset}
 use Rattle.image.specs.Words.{tableWord, wordOffset}
 use Rattle.image.specs.Usable.{usable, markOk, addressOk}
@@ -48,8 +48,9 @@ fresh-is z m a h e = rw (e, h) (sym (lay-is _ _ _))
 
 head-inside : (v : Version) → 6 ≤ imageLength v
 head-inside v1 = omega arith
+head-inside v2 = omega arith
 
-abbrev head : Version → ℕ → List ℕ
+abbrev pub head : Version → ℕ → List ℕ
 head v a = 73 ∷ (90 ∷ (75 ∷ (0 ∷ (versionNumber v ∷ (a ∷ [])))))
 
 module _ (v : Version) (a : ℕ) where
@@ -57,11 +58,11 @@ module _ (v : Version) (a : ℕ) where
   unfolding fresh
   length-fresh = length-lay (zeros (imageLength v)) 0 (head v a) ∙ length-zeros (imageLength v)
 
-  head-at : (i : ℕ) → i < 6 → getD (fresh v a) i 0 ≡ getD (head v a) i 0
+  pub head-at : (i : ℕ) → i < 6 → getD (fresh v a) i 0 ≡ getD (head v a) i 0
   unfolding fresh
   head-at i h = lay-at (zeros (imageLength v)) (head v a) (omega (arith, length-zeros (imageLength v), head-inside v)) i h
 
-  rest-at : (i : ℕ) → 6 ≤ i → getD (fresh v a) i 0 ≡ 0
+  pub rest-at : (i : ℕ) → 6 ≤ i → getD (fresh v a) i 0 ≡ 0
   unfolding fresh
   rest-at i h = lay-out (zeros (imageLength v)) 0 (head v a) i (λ p. let z : ⊥ = omega arith in z) ∙ zeros-at (imageLength v) i
 

@@ -6,8 +6,4 @@ pub mod Missing
 pub mod FreshImage
 pub mod OneOutcome
 pub mod Stretches
-pub mod Touches
-pub mod Stores
-pub mod Signatures
-pub mod Elsewhere
-pub mod Storing
+pub mod Kept

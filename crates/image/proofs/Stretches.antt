@@ -9,7 +9,7 @@ use Rattle.laws.specs.Checks.{all}
 use Rattle.laws.proofs.Tests.{never}
 use Rattle.image.specs.declared.cell.Cell.{Cell}
 use Rattle.image.specs.declared.cell.Cell.the-variants.{Mask, Mode, Clock, Constants, Errors, Part, Table}
-use Rattle.image.specs.Version.{Version, imageLength}
+use Rattle.image.specs.Version.{Version, v1, imageLength}
 use Rattle.image.specs.Cell.{offset, size, isCell, isItem, run, cellsOf}
 use Rattle.image.proofs.Cells.{placed}
 
@@ -60,3 +60,11 @@ item-inside v d h = go (stretch-view d)
     go (whole k e) =
         let l : ltb k 16 ≡ true = rw e at h in
         rw e (omega (arith, placed v (Part k 10) (rw l) .high))
+
+-- and behind mark, version and address
+pub item-low : (d : Cell) → isItem d ≡ true → 6 ≤ offset d
+item-low d h = go (stretch-view d)
+  where
+    go : Stretch d → 6 ≤ offset d
+    go (single e f) = placed v1 d (f h) .low
+    go (whole k e) = rw e (omega arith)

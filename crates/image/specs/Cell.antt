@@ -76,6 +76,10 @@ partsFrom k (suc n) = run (Part k) 0 11 ++ partsFrom (suc k) n
 unfoldable pub cells : List Cell
 cells = Mask ∷ (Mode ∷ (Clock ∷ (run Constants 0 8 ++ (run Errors 0 8 ++ partsFrom 0 16))))
 
+-- what has a signature, 32 items, in the order in which version 2 keeps these (document 02, request 7)
+unfoldable pub items : List Cell
+items = run Table 0 16 ++ (run Constants 0 8 ++ run Errors 0 8)
+
 -- the cells that a stretch is made of
 abbrev pub cellsOf : Cell → List Cell
 cellsOf Mask = Mask ∷ []

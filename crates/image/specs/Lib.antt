@@ -4,5 +4,3 @@ pub mod Words
 pub mod Usable
 pub mod Fresh
 pub mod Held
-pub mod Signature
-pub mod Stored

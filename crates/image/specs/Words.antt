@@ -1,4 +1,5 @@
--- Where words stand in an image, and the words of the tables (document 01, "The image"). Assumes nothing.
+-- Where words stand in an image: those of the tables (document 01, "The image") and the signatures that version 2 keeps (document 02, request 7).
+-- Assumes nothing.
 use mathlib.Core.List.{List, [], _∷_}
 use mathlib.Core.Bool.{Bool, _&&_, _||_}
 use Prim.Native.Nat.{ℕ, _+_, _*_}
@@ -6,7 +7,10 @@ use lib.Dec.{leb}
 use Rattle.laws.specs.Bytes.{wordAt}
 use Rattle.laws.specs.Checks.{all}
 use Rattle.image.specs.declared.cell.Cell.{Cell}
-use Rattle.image.specs.Version.{Version, v1, imageLength}
+use Rattle.image.specs.declared.cell.Cell.the-variants.{Mask, Mode, Clock, Constants, Errors, Part, Table}
+use Rattle.image.specs.declared.cell.Signed.{Signed}
+use Rattle.image.specs.declared.cell.Signed.the-variants.{Nowhere, At}
+use Rattle.image.specs.Version.{Version, v1, v2, imageLength}
 use Rattle.image.specs.Cell.{offset, size}
 
 -- a number of bytes from an offset on
@@ -18,9 +22,24 @@ pub record Span : Type 0 where
 abbrev pub wordOffset : ℕ → ℕ
 wordOffset k = 17 + 2 * k
 
--- all words of a version; none of them lies in a cell. Those of the sixteen tables, two bytes each
+-- where the i-th of the 32 kept signatures stands, from 0
+abbrev pub keptOffset : ℕ → ℕ
+keptOffset i = 23753 + 2 * i
+
+-- the signature that a cell's bytes count in: tables come in image order, then constants, then error tables; a part counts in its table's
+abbrev pub signatureWord : Cell → Signed
+signatureWord Mask = Nowhere
+signatureWord Mode = Nowhere
+signatureWord Clock = Nowhere
+signatureWord (Constants c) = At (keptOffset (16 + c))
+signatureWord (Errors e) = At (keptOffset (24 + e))
+signatureWord (Part k p) = At (keptOffset k)
+signatureWord (Table k) = At (keptOffset k)
+
+-- all words of a version; none of them lies in a cell. Those of the sixteen tables, two bytes each, and in version 2 those of the 32 signatures
 abbrev pub words : Version → List Span
 words v1 = record { from = wordOffset 0; count = 32 } ∷ []
+words v2 = record { from = wordOffset 0; count = 32 } ∷ (record { from = keptOffset 0; count = 64 } ∷ [])
 
 unfoldable pub tableWord : List ℕ → ℕ → ℕ
 tableWord m k = wordAt m (wordOffset k)

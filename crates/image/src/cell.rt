@@ -2,6 +2,7 @@
 ghost use mathlib.Core.Path.{_≡_};
 ghost use mathlib.Core.Bool.{cond};
 ghost use Rattle.image.specs.Cell.{offset, size, constantsNamed, errorsNamed, isTable, tableIndex, tableNamed, partNamed};
+ghost use Rattle.image.specs.Words.{signatureWord};
 
 // What a command works on: one of the 195 cells, or all eleven parts of a table at once, which only its signature reads. Inside, numbers
 // count from 0: channels 0..7, error tables 0..7, tables 0..15 in image order, parts 0..10.
@@ -21,6 +22,12 @@ pub enum Named {
     Cell(Cell),
 }
 
+// Where the signature is kept that a cell's bytes count in.
+pub enum Signed {
+    Nowhere,
+    At(usize),
+}
+
 impl Cell {
     // where each kind begins
     pub const MASK_OFFSET: usize = 6;
@@ -36,6 +43,13 @@ impl Cell {
     pub const ERRORS_OFFSET: usize = 713;
 
     pub const TABLES_OFFSET: usize = 1225;
+
+    // where the words of their signatures begin
+    pub const TABLE_SIGNATURES_OFFSET: usize = 23753;
+
+    pub const CONSTANTS_SIGNATURES_OFFSET: usize = 23785;
+
+    pub const ERRORS_SIGNATURES_OFFSET: usize = 23801;
 
     // how many bytes one of a kind has
     pub const BYTE_SIZE: usize = 1;
@@ -141,6 +155,29 @@ impl Cell {
             Cell::Errors(_) => Cell::ERRORS_SIZE,
             Cell::Part(_, _) => Cell::PART_SIZE,
             Cell::Table(_) => Cell::TABLE_SIZE,
+        }
+    }
+
+    // A part counts in its table's.
+    pub fn signature_word(self) -> Signed
+        ensures { λ r. ⌜ r ≡ signatureWord self ⌝ }
+    {
+        match self {
+            Cell::Mask => Signed::Nowhere,
+            Cell::Mode => Signed::Nowhere,
+            Cell::Clock => Signed::Nowhere,
+            Cell::Constants(c) => Signed::At(
+                Cell::CONSTANTS_SIGNATURES_OFFSET + Cell::WORD_SIZE * (c as usize),
+            ),
+            Cell::Errors(e) => {
+                Signed::At(Cell::ERRORS_SIGNATURES_OFFSET + Cell::WORD_SIZE * (e as usize))
+            }
+            Cell::Part(k, _) => {
+                Signed::At(Cell::TABLE_SIGNATURES_OFFSET + Cell::WORD_SIZE * (k as usize))
+            }
+            Cell::Table(k) => {
+                Signed::At(Cell::TABLE_SIGNATURES_OFFSET + Cell::WORD_SIZE * (k as usize))
+            }
         }
     }
 }

@@ -1,21 +1,17 @@
-// The image of document 01: its cells, when it is usable, a fresh one, the words and their bits, held parts, signatures, and storing in a cell.
+// The image: its cells, when it is usable, a fresh one, the words and their bits, held parts.
 mod cell;
 mod fresh;
 mod held;
-mod signature;
-mod stored;
 mod usable;
 mod version;
 mod word;
 
 pub use cell::Cell;
 pub use cell::Named;
+pub use cell::Signed;
 pub use fresh::freshen;
 pub use held::Held;
 pub use held::held_parts;
-pub use signature::signature_of;
-pub use signature::sum;
-pub use stored::store;
 pub use usable::is_usable;
 pub use version::ADDRESS_OFFSET;
 pub use version::IMAGE_LENGTH;

@@ -16,8 +16,8 @@ use Rattle.frame.proofs.RoundTrip.{frame-in-capitals}
 use Rattle.image.specs.declared.cell.Cell.{Cell}
 use Rattle.image.specs.Version.{Version, current}
 use Rattle.image.specs.Usable.{address}
-use Rattle.image.specs.Signature.{signature}
-use Rattle.image.proofs.Signatures.{signature-word}
+use Rattle.storing.specs.Signature.{signature}
+use Rattle.storing.proofs.Signatures.{signature-word}
 use Rattle.rules.specs.declared.rule.Act.{Act}
 use Rattle.rules.specs.declared.rule.Act.the-variants.{Show, Sign, Store}
 use Rattle.rules.specs.declared.switch.Switch.{Switch}
@@ -59,7 +59,7 @@ serve-alike k f g m out r s m′ m″ o p e x y = serve-one-outcome k g m out r 
 module _ (s : Switch) (v : Version) (f m : List ℕ) (bytes : Bytes m) where
   said : (a : Act) (d : Cell) → Bytes (says v a d m)
   said Show d = bytes-slice _ _ m bytes
-  said Sign d = bytes-two (signature v d m) (signature-word v d m)
+  said Sign d = bytes-two (signature v d m) (signature-word v d m bytes)
   said (Store k) d = bytes-none
 
   answer : noSmall (answered (heard s) v f m .reply) ≡ true

@@ -17,11 +17,11 @@ use Rattle.image.specs.Version.{Version}
 use Rattle.image.specs.Cell.{offset, size, isCell}
 use Rattle.image.specs.Words.{tableWord}
 use Rattle.image.specs.Usable.{usable, address}
-use Rattle.image.specs.Stored.{FitStore, touches}
 use Rattle.image.proofs.Cells.{one-cell, placed, word-inside, part-few}
 use Rattle.image.proofs.UsableFacts.{facts}
-use Rattle.image.proofs.Touches.{Own, touches-low, no-touch-in-cell}
-use Rattle.image.proofs.Stores.{stored-length, byte-stays, bit-stays, own-bit, cell-filled}
+use Rattle.storing.specs.Stored.{FitStore, touches}
+use Rattle.storing.proofs.Touches.{Own, touches-low, no-touch-in-cell}
+use Rattle.storing.proofs.Stores.{stored-length, byte-stays, bit-stays, own-bit, cell-filled}
 use Rattle.rules.specs.declared.rule.Act.{Act}
 use Rattle.rules.specs.declared.rule.Act.the-variants.{Show, Sign, Store}
 use Rattle.rules.specs.declared.verdict.Verdict.{Verdict}

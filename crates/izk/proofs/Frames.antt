@@ -13,8 +13,7 @@ use Rattle.image.specs.Cell.{when, constantsNamed, errorsNamed, isTable, tableI
 use Rattle.image.specs.Words.{tableWord}
 use Rattle.image.specs.Usable.{markOk, addressOk, countOk, wordOk, usable}
 use Rattle.image.specs.Fresh.{fresh}
-use Rattle.image.specs.Signature.{fullSum}
-use Rattle.image.specs.Stored.{stored}
+use Rattle.storing.specs.Stored.{stored}
 use Rattle.rules.specs.declared.switch.Switch.the-variants.{Sealed}
 use Rattle.rules.specs.Rules.{rowed, rowsNamed, zeroFrom, blank, constantsOk, degrees, rises, clockOk, modeOk, commands, ruleOf}
 use Rattle.rules.specs.Seal.{lets}
@@ -28,7 +27,7 @@ use Rattle.izk.specs.Frames.{ended, on, after, right, example, examples}
 pub examples-hold : (all right examples ≡ true) × (right (example [] ":013F01BF" 0 ":013F0100BF" 0) ≡ true)
     × (served (heard Sealed) current (ended ":01330FBD") (fresh current 1) (zeros 269) .number ≡ 16)
 unfolding examples ended on after right served answered heard recognised sought lets tried ruleOf commands rowed rowsNamed zeroFrom blank constantsOk
-    degrees rises clockOk modeOk markOk addressOk countOk tableWord wordOk usable fresh fullSum stored when constantsNamed errorsNamed isTable
+    degrees rises clockOk modeOk markOk addressOk countOk tableWord wordOk usable fresh stored when constantsNamed errorsNamed isTable
     tableIndex tableNamed partNamed lengthOk endsOk inner bodyOf contentsOf sumOk frameChecks frameOf isDigit valueOf charOf charsOf
     bytesOf checksumOf withBit judged within every all among same slice lay zeros padded sumOf two wordAt codes
 examples-hold = (refl, refl, refl)

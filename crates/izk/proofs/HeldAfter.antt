@@ -16,11 +16,11 @@ use Rattle.image.specs.Cell.{isTable, tableIndex}
 use Rattle.image.specs.Words.{tableWord}
 use Rattle.image.specs.Usable.{usable, address}
 use Rattle.image.specs.Held.{heldOf, heldParts}
-use Rattle.image.specs.Stored.{stored, FitStore}
 use Rattle.image.proofs.Cells.{part-numbers}
 use Rattle.image.proofs.UsableFacts.{facts}
-use Rattle.image.proofs.Touches.{WordAfter}
-use Rattle.image.proofs.Stores.{word-stored, own-bit}
+use Rattle.storing.specs.Stored.{stored, FitStore}
+use Rattle.storing.proofs.Touches.{WordAfter}
+use Rattle.storing.proofs.Stores.{word-stored, own-bit}
 use Rattle.rules.specs.declared.rule.Act.the-variants.{Store}
 use Rattle.rules.specs.declared.verdict.Verdict.the-variants.{Accepted}
 use Rattle.izk.specs.Heard.{Hearing, Lawful}

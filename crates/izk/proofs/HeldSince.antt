@@ -22,8 +22,8 @@ use Rattle.image.specs.Fresh.{fresh}
 use Rattle.image.specs.Held.{missingFrom, lowestMissing, heldOf, heldParts}
 use Rattle.image.proofs.Indices.{index-below, one-index}
 use Rattle.image.proofs.UsableFacts.{facts}
-use Rattle.image.proofs.Stores.{bit-stays, own-bit}
 use Rattle.image.proofs.FreshImage.{fresh-bit, fresh-usable}
+use Rattle.storing.proofs.Stores.{bit-stays, own-bit}
 use Rattle.rules.specs.declared.rule.Act.{Act}
 use Rattle.rules.specs.declared.rule.Act.the-variants.{Show, Sign, Store}
 use Rattle.rules.specs.declared.switch.Switch.{Switch}

@@ -18,7 +18,8 @@ use Rattle.image.specs.Version.{Version}
 use Rattle.image.specs.Cell.{offset, extent, when, errorsNamed}
 use Rattle.image.specs.Usable.{usable, address}
 use Rattle.image.proofs.UsableFacts.{facts}
-use Rattle.image.proofs.Stores.{shown-back}
+use Rattle.storing.proofs.Stores.{shown-back}
+use Rattle.rules.specs.declared.rule.Act.{Act}
 use Rattle.rules.specs.declared.rule.Act.the-variants.{Show, Store}
 use Rattle.rules.specs.declared.rule.Found.the-variants as F
 use Rattle.rules.specs.declared.rule.Names.the-variants as N
@@ -42,13 +43,18 @@ pub record Replies (a : BuffersAfter) (reply : List ℕ) : Type 0 where
   pub done-is : a .number ≡ 0
   pub reply-is : replyIn a ≡ reply
 
+-- an accepted frame has the reply of its act
+pub replies-as-said : (ear : Hearing) → Lawful ear → (v : Version) (g m : List ℕ) (e : ℕ) (a : Act) (d : Cell) → ear (address m) g ≡ Accepted e a d
+    → usable v m ≡ true → (out : List ℕ) → 269 ≤ length out → Replies (served ear v g m out) (frameOf (take (2 + e) (contentsOf g) ++ says v a d m))
+unfolding answered
+replies-as-said ear ok v g m e a d accepts u out room =
+    record { done-is = rw (served-is ear v g m out u room, accepts); reply-is = reply-seen ear ok v g m out u room ∙ rw accepts }
+
 -- what a frame shows it shows as the image has it, whatever that is and whenever it was stored
 pub shows-as-stored : (ear : Hearing) → Lawful ear → (v : Version) (g m : List ℕ) (e : ℕ) (d : Cell) → ear (address m) g ≡ Accepted e Show d
     → usable v m ≡ true → (out : List ℕ) → 269 ≤ length out
     → Replies (served ear v g m out) (frameOf (take (2 + e) (contentsOf g) ++ slice (offset d) (extent d (getD m (offset d) 0)) m))
-unfolding answered
-shows-as-stored ear ok v g m e d shows u out room =
-    record { done-is = rw (served-is ear v g m out u room, shows); reply-is = reply-seen ear ok v g m out u room ∙ rw shows }
+shows-as-stored ear ok v g m e d shows u out room = replies-as-said ear ok v g m e Show d shows u out room
 
 -- so a 63 that the block serves returns error table n, its count and as many rows as that says, from where it stands in the image
 pub error-table-shown : (k : Switch) (v : Version) (g m out : List ℕ) (n : ℕ) → byte (contentsOf g) 2 ≡ 63 → byte (contentsOf g) 3 ≡ n

@@ -18,7 +18,7 @@ use Rattle.image.specs.declared.cell.Cell.{Cell}
 use Rattle.image.specs.Version.{Version}
 use Rattle.image.specs.Usable.{usable, address}
 use Rattle.image.proofs.UsableFacts.{Usable, facts, usable-of}
-use Rattle.image.proofs.Stores.{head-stays, store-usable}
+use Rattle.storing.proofs.Stores.{head-stays, store-usable}
 use Rattle.rules.specs.declared.rule.Act.{Act}
 use Rattle.rules.specs.declared.rule.Act.the-variants.{Show, Sign, Store}
 use Rattle.rules.specs.declared.verdict.Verdict.{Verdict}

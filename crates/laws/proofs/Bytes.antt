@@ -170,6 +170,14 @@ slice-same m m′ a n e h =
     ext-getD 0 _ _ (simp (length-take, length-drop, e))
     (λ k l. let lt : k < n = omega (arith, simp length-take at l) in simp (getD-take, getD-drop) (h (a + k) (omega arith, omega arith)))
 
+-- also if one goes on further than the other
+pub slice-both : (m m′ : List ℕ) (a n : ℕ) → a + n ≤ length m → a + n ≤ length m′ → ((i : ℕ) → In a n i → getD m i 0 ≡ getD m′ i 0)
+    → slice a n m ≡ slice a n m′
+unfolding slice
+slice-both m m′ a n r r′ h =
+    ext-getD 0 _ _ (length-slice a n m r ∙ sym (length-slice a n m′ r′))
+    (λ k l. let lt : k < n = omega (arith, length-slice a n m r) in simp (getD-take, getD-drop) (h (a + k) (omega arith, omega arith)))
+
 module _ (g : ℕ → ℕ) where
   take-map : (n : ℕ) (l : List ℕ) → take n (map g l) ≡ map g (take n l)
   take-map zero l = refl

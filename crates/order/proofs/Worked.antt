@@ -20,8 +20,8 @@ use Rattle.image.specs.Cell.{run, when, isTable, tableIndex, tableNamed, partNa
 use Rattle.image.specs.Words.{tableWord}
 use Rattle.image.specs.Usable.{markOk, addressOk, countOk, wordOk, usable}
 use Rattle.image.specs.Fresh.{fresh}
-use Rattle.image.specs.Stored.{stored}
 use Rattle.image.proofs.FreshImage.{fresh-usable}
+use Rattle.storing.specs.Stored.{stored}
 use Rattle.rules.specs.declared.switch.Switch.the-variants.{Unsealed}
 use Rattle.rules.specs.Rules.{commands, ruleOf}
 use Rattle.rules.specs.Seal.{lets}
@@ -102,16 +102,44 @@ rows p (suc n) = replicate 128 p ++ rows (suc p) n
 unfoldable pub heldWords : List ℕ
 heldWords = zeros 2 ++ (7 ∷ (255 ∷ (zeros 14 ++ (0 ∷ (3 ∷ zeros 12)))))
 
--- the whole image: mark, version and address, the words, the rows of both tables, and 0 elsewhere
-unfoldable pub expected : List ℕ
-expected =
+-- the 32 signatures: that of table 2 is 128 times 66, or 33 times 256; that of table 12, the tenth in the image, 128 times 3, or 256 and 128
+unfoldable pub signatures : List ℕ
+signatures = zeros 2 ++ (33 ∷ (0 ∷ (zeros 14 ++ (1 ∷ (128 ∷ zeros 44)))))
+
+-- the whole image: mark, version and address, the words, the rows of both tables, the signatures, and 0 elsewhere
+unfoldable pub expected : List ℕ → List ℕ
+expected signed =
     (73 ∷ (90 ∷ (75 ∷ (0 ∷ (versionNumber current ∷ (1 ∷ zeros 11))))))
-    ++ (heldWords ++ (zeros 2584 ++ (rows 1 11 ++ (zeros 9856 ++ (rows 1 2 ++ zeros 9600)))))
+    ++ (heldWords ++ (zeros 2584 ++ (rows 1 11 ++ (zeros 9856 ++ (rows 1 2 ++ (zeros 9600 ++ signed))))))
 
 -- as written, and otherwise, into the other outputs
-pub both-orders : (final (step (heard Unsealed) current) (fresh current 1) calls ≡ expected)
-    × (final (step (heard Unsealed) current) (fresh current 1) callsAgain ≡ expected)
-unfolding calls callsAgain other partsSent othersSent rows heldWords expected served answered heard recognised sought lets tried stored ruleOf commands
-    markOk addressOk countOk tableWord wordOk usable fresh when isTable tableIndex tableNamed partNamed lengthOk endsOk inner bodyOf contentsOf sumOk
-    frameChecks frameOf isDigit valueOf charOf charsOf bytesOf checksumOf withBit judged within every all slice lay zeros padded sumOf two wordAt
+pub both-orders : (final (step (heard Unsealed) current) (fresh current 1) calls ≡ expected signatures)
+    × (final (step (heard Unsealed) current) (fresh current 1) callsAgain ≡ expected signatures)
+unfolding calls callsAgain other partsSent othersSent rows heldWords signatures expected served answered heard recognised sought lets tried stored ruleOf
+    commands markOk addressOk countOk tableWord wordOk usable fresh when isTable tableIndex tableNamed partNamed lengthOk endsOk inner bodyOf contentsOf
+    sumOk frameChecks frameOf isDigit valueOf charOf charsOf bytesOf checksumOf withBit judged within every all slice lay zeros padded sumOf two wordAt
 both-orders = (refl, refl)
+
+-- ---- false words
+
+-- an image with two: that of table 2 by 1234h, that of channel 0 by FFFFh
+unfoldable pub falsified : List ℕ
+falsified = lay (lay (fresh current 1) 23755 (18 ∷ (52 ∷ []))) 23785 (255 ∷ (255 ∷ []))
+
+-- two parts of table 2, both ways
+unfoldable pub parts : List Call
+parts = partsSent 2 1 2
+
+unfoldable pub partsBack : List Call
+partsBack = partsSent 2 2 1 ++ partsSent 2 1 1
+
+unfoldable pub falseSignatures : List ℕ
+falseSignatures = zeros 2 ++ (19 ∷ (180 ∷ (zeros 28 ++ (255 ∷ (255 ∷ zeros 30)))))
+
+-- one image is left, and both words are false by as much as before: 1234h and 128 times 3 are 13B4h
+pub either-order-false : (slice 23753 64 (final (step (heard Unsealed) current) falsified parts) ≡ falseSignatures)
+    × (final (step (heard Unsealed) current) falsified parts ≡ final (step (heard Unsealed) current) falsified partsBack)
+unfolding falsified parts partsBack falseSignatures partsSent served answered heard recognised sought lets tried stored ruleOf commands markOk addressOk
+    countOk tableWord wordOk usable fresh when isTable tableIndex partNamed lengthOk endsOk inner bodyOf contentsOf sumOk frameChecks frameOf isDigit
+    valueOf charOf charsOf bytesOf checksumOf withBit judged within every all slice lay zeros padded sumOf two wordAt
+either-order-false = (refl, refl)

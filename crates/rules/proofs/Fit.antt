@@ -18,8 +18,8 @@ use Rattle.image.specs.declared.cell.Cell.the-variants as Cells
 use Rattle.image.specs.declared.cell.Named.{Named}
 use Rattle.image.specs.declared.cell.Named.the-variants as Named′
 use Rattle.image.specs.Cell.{size, extent, isCell, isItem}
-use Rattle.image.specs.Stored.{FitStore}
 use Rattle.image.proofs.Cells.{extent-view}
+use Rattle.storing.specs.Stored.{FitStore}
 use Rattle.rules.specs.declared.rule.Act.{Act}
 use Rattle.rules.specs.declared.rule.Act.the-variants.{Show, Sign, Store}
 use Rattle.rules.specs.declared.rule.Found.{Found}

@@ -8,7 +8,7 @@ use lib.ListN.{length, drop}
 use Rattle.image.specs.declared.cell.Cell.{Cell}
 use Rattle.image.specs.declared.cell.Named.the-variants as Named′
 use Rattle.image.specs.Cell.{size, isCell, isItem}
-use Rattle.image.specs.Stored.{FitStore}
+use Rattle.storing.specs.Stored.{FitStore}
 use Rattle.rules.specs.declared.rule.Act.{Act}
 use Rattle.rules.specs.declared.rule.Act.the-variants.{Show, Sign, Store}
 use Rattle.rules.specs.declared.rule.Rule.{Rule}

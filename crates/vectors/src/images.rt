@@ -74,7 +74,7 @@ pub(crate) fn total(image: &[u8], n: usize) {
     if image.len() < n {
         return;
     }
-    print::start(image::sum(&image[0..n]) as usize);
+    print::start(storing::sum(&image[0..n]) as usize);
 }
 
 // The bit is set in the table's word, and read back.

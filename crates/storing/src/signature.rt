@@ -1,15 +1,16 @@
-// An item's signature.
-use crate::cell::Cell;
+// A signature's sum, and the word that is kept of it.
+use image::Cell;
+use image::Signed;
 ghost use mathlib.Core.Bool.{true};
 ghost use mathlib.Core.Path.{_≡_};
 ghost use Prim.Native.Nat.{_%_, _≤_};
 ghost use lib.ListN.{length};
 ghost use Rattle.laws.specs.Bytes.{sumOf};
 ghost use Rattle.image.specs.Version.{current, imageLength};
 ghost use Rattle.image.specs.Cell.{isItem};
-ghost use Rattle.image.specs.Signature.{signature};
+ghost use Rattle.storing.specs.Signature.{signature};
 
-// The sum behind it, whatever the item's size.
+// The sum of bytes, however many there are.
 pub fn sum(item: &[u8]) -> u16
     requires { ⌜ length (now item) ≤ 65536 ⌝ }
     ensures { λ r. ⌜ r ≡ sumOf (now (item .entry)) % 65536 ⌝ }
@@ -23,11 +24,14 @@ pub fn sum(item: &[u8]) -> u16
     (total % 65536) as u16
 }
 
+// The word as it stands, true or false: no byte of the item is read.
 pub fn signature_of(cell: Cell, m: &[u8]) -> u16
     requires { ⌜ (isItem cell ≡ true) × (length (now m) ≡ imageLength current) ⌝ }
     ensures { λ r. ⌜ r ≡ signature current cell (now (m .entry)) ⌝ }
 {
-    let start = cell.offset();
-    let end = start + cell.size();
-    sum(&m[start..end])
+    let kept = cell.signature_word();
+    match kept {
+        Signed::Nowhere => 0,
+        Signed::At(start) => image::word_at(m, start),
+    }
 }

@@ -1,16 +1,19 @@
--- Storing bytes in a cell, and what changes along with it (document 01, "Cells" and "Commands"). Assumes nothing.
+-- Storing bytes in a cell, and what changes along with it (document 01, "Cells" and "Commands"; of kept signatures document 02, request 7). Assumes
+-- nothing.
 use mathlib.Core.Path.{_≡_}
 use mathlib.Core.List.{List, [], _∷_}
 use mathlib.Core.Bool.{true}
-use Prim.Native.Nat.{ℕ, _≤_}
+use Prim.Native.Nat.{ℕ, _+_, _-_, _%_, _≤_}
 use lib.ListN.{length, getD}
-use Rattle.laws.specs.Bytes.{slice, lay, padded, two, wordAt}
+use Rattle.laws.specs.Bytes.{slice, lay, padded, sumOf, two, wordAt}
 use Rattle.laws.specs.Bits.{withBit}
 use Rattle.image.specs.declared.cell.Cell.{Cell}
 use Rattle.image.specs.declared.cell.Cell.the-variants as Cells
-use Rattle.image.specs.Version.{Version, v1}
+use Rattle.image.specs.declared.cell.Signed.{Signed}
+use Rattle.image.specs.declared.cell.Signed.the-variants.{Nowhere, At}
+use Rattle.image.specs.Version.{Version, v1, v2}
 use Rattle.image.specs.Cell.{offset, size, extent, isCell}
-use Rattle.image.specs.Words.{wordOffset}
+use Rattle.image.specs.Words.{wordOffset, signatureWord}
 
 -- a word, by its offset, and how it changes when a cell's old bytes give way to new ones
 pub record Touch : Type 0 where
@@ -38,9 +41,21 @@ bits (Cells.Errors e) = []
 bits (Cells.Part k p) = bitOf k p ∷ []
 bits (Cells.Table k) = []
 
+-- a signature's word is amended by what left and what came, remainder by 65,536: nothing but the cell is added up
+abbrev pub amended : List ℕ → List ℕ → ℕ → ℕ
+amended old new w = (w + (65536 - sumOf old % 65536) + sumOf new) % 65536
+
+abbrev pub amendAt : ℕ → Touch
+amendAt o = record { word = o; change = amended }
+
+abbrev pub amending : Signed → List Touch → List Touch
+amending Nowhere ts = ts
+amending (At o) ts = amendAt o ∷ ts
+
 -- all that changes along with a cell
 abbrev pub touches : Version → Cell → List Touch
 touches v1 d = bits d
+touches v2 d = amending (signatureWord d) (bits d)
 
 -- bytes stored in a cell, padded with 0 to its size, so that no old row stays behind a shorter error table
 unfoldable pub stored : Version → Cell → List ℕ → List ℕ → List ℕ

@@ -5,8 +5,8 @@ use native.Mathlib.Omega.{arith}
 use lib.ListN.{length, drop}
 use Rattle.laws.specs.Bytes.{sumOf}
 use Rattle.laws.proofs.Sums.{sum-next, sum-done}
-use Rattle.image.proofs.signature.sum.Statement.{statement}
-use Rattle.image.proofs.signature.sum.Tie as tie
+use Rattle.storing.proofs.signature.sum.Statement.{statement}
+use Rattle.storing.proofs.signature.sum.Tie as tie
 
 abbrev Inv-loop : tie.InvT-loop
 Inv-loop item total₀ i₀ total i = (i ≤ length item) × (total ≤ 255 * i) × (total + sumOf (drop i item) ≡ sumOf item)

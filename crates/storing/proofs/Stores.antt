@@ -12,15 +12,15 @@ use Rattle.laws.specs.Bytes.{slice, lay, padded}
 use Rattle.laws.specs.Bits.{bit, withBit}
 use Rattle.laws.proofs.Bytes.{In, length-lay, lay-out, lay-in, slice-same, slice-lay, length-padded, take-padded, padded-at, word-out}
 use Rattle.laws.proofs.Bits.{bit-set, bit-kept, with-bit-small}
 use Rattle.image.specs.declared.cell.Cell.{Cell}
 use Rattle.image.specs.declared.cell.Cell.the-variants.{Errors, Part}
 use Rattle.image.specs.Version.{Version, imageLength}
 use Rattle.image.specs.Cell.{offset, size, extent}
 use Rattle.image.specs.Words.{words, wordOffset, tableWord}
-use Rattle.image.specs.Stored.{touchedAll, touches, stored, FitStore}
 use Rattle.image.proofs.Cells.{one-cell, placed, InSpans, word-inside, table-words, extent-view, size-some, part-few}
 use Rattle.image.proofs.UsableFacts.{Usable, mark-same, address-same}
-use Rattle.image.proofs.Touches.{Own, touched-length, touched-byte, touches-low, no-touch-in-cell, WordAfter, own-word, word-after}
+use Rattle.storing.specs.Stored.{touchedAll, touches, stored, FitStore}
+use Rattle.storing.proofs.Touches.{Own, touched-length, touched-byte, touches-low, no-touch-in-cell, WordAfter, own-word, word-after}
 
 -- ---- what it changes
 
@@ -62,7 +62,7 @@ module _ (v : Version) (d : Cell) (bs : List ℕ) (fit : FitStore d bs) (m : Lis
 
   pub word-stored : (j : ℕ) → j < 16 → WordAfter d j (tableWord m j) (tableWord (stored v d bs m) j)
   unfolding stored
-  word-stored j l = rw word-laid at (word-after (slice (offset d) (size d) m) new laid v d j (fit .cell) laid-length)
+  word-stored j l = rw word-laid at (word-after (slice (offset d) (size d) m) new laid v d j (fit .cell) l laid-length)
 
   -- any bit but its own
   pub bit-stays : (j q : ℕ) → j < 16 → d ≢ Part j q → bit (tableWord (stored v d bs m) j) q ≡ bit (tableWord m j) q

@@ -1,10 +1,10 @@
 -- A part's bit is set in its table's word; any other cell, known by its tag alone, touches nothing. Assumes nothing.
 use native.Mathlib.Omega.{arith}
 use borrow.Author.Needs.{needs}
 use Rattle.image.proofs.Cells.{part-few}
-use Rattle.image.proofs.Storing.{untouched}
-use Rattle.image.proofs.stored.put_bits.Statement.{statement}
-use Rattle.image.proofs.stored.put_bits.Tie as tie
+use Rattle.storing.proofs.Storing.{untouched}
+use Rattle.storing.proofs.stored.put_bits.Statement.{statement}
+use Rattle.storing.proofs.stored.put_bits.Tie as tie
 
 enum-known-cell : tie.Need-enum-known-cell
 enum-known-cell c = search needs

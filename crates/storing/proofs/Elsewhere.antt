@@ -1,27 +1,30 @@
 -- What a store leaves as it was: every stretch that does not hold its cell. So two cells may be stored in either order. Assumes nothing.
-use mathlib.Core.Path.{_≡_, sym, ap, ap₂, _∙_}
+use mathlib.Core.Path.{_≡_, refl, sym, ap, ap₂, _∙_}
 use mathlib.Core.Logic.{_≢_, _⊎_, inl, inr}
 use mathlib.Core.List.{List, List·Memᴰ, Memᴰ·cast}
 use mathlib.Core.Bool.{true}
-use Prim.Native.Nat.{ℕ, _%_, _≤_}
+use Prim.Native.Nat.{ℕ, _+_, _%_, _≤_}
 use native.Mathlib.Omega.{arith}
 use lib.ListN.{length, getD}
 use borrow.Author.Tests.{ltb-true}
-use Rattle.laws.specs.Bytes.{slice, lay, padded, sumOf}
+use Rattle.laws.specs.Bytes.{slice, lay, padded, sumOf, wordAt}
 use Rattle.laws.specs.Checks.{all}
 use Rattle.laws.proofs.Tests.{all-of}
 use Rattle.laws.proofs.Bytes.{In, Disjoint, length-lay, lay-swap, length-padded, slice-same}
 use Rattle.image.specs.declared.cell.Cell.{Cell}
 use Rattle.image.specs.declared.cell.Cell.the-variants.{Errors}
-use Rattle.image.specs.Version.{Version, v1, imageLength}
+use Rattle.image.specs.declared.cell.Signed.{Signed}
+use Rattle.image.specs.Version.{Version, v1, v2, imageLength}
 use Rattle.image.specs.Cell.{offset, size, extent, isCell, isItem, cellsOf}
-use Rattle.image.specs.Signature.{fullSum, signature}
-use Rattle.image.specs.Stored.{touchedAll, touches, stored, FitStore}
+use Rattle.image.specs.Words.{keptOffset}
 use Rattle.image.proofs.Cells.{one-cell, placed, covered, extent-view}
 use Rattle.image.proofs.UsableFacts.{Usable}
 use Rattle.image.proofs.Stretches.{cell-made, item-made, only-cell}
-use Rattle.image.proofs.Touches.{Own, touched-lay, touched-swap, touches-agree, no-touch-in-cell, touches-room}
-use Rattle.image.proofs.Stores.{stored-length, outside}
+use Rattle.image.proofs.Kept.{itemAt, Counted, Counts, nowhere, in-word, counts-view, kept-words}
+use Rattle.storing.specs.Signature.{fullSum, wordKept, signature}
+use Rattle.storing.specs.Stored.{touchedAll, bits, amending, touches, stored, FitStore}
+use Rattle.storing.proofs.Touches.{Own, touched-lay, touched-swap, bits-below, touches-agree, no-touch-in-cell, touches-room}
+use Rattle.storing.proofs.Stores.{stored-length, byte-stays, outside}
 
 -- what counts of a cell lies inside it
 pub extent-fits : (v : Version) (m : List ℕ) → Usable v m → (d : Cell) → isCell d ≡ true → extent d (getD m (offset d) 0) ≤ size d
@@ -44,12 +47,41 @@ module _ (v : Version) (m : List ℕ) (long : length m ≡ imageLength v) (d : C
       slice-same (stored v d bs m) m (offset e) n (stored-length v d bs fit m long ∙ sym long)
       (λ i a. stretch-stays i (a .0, omega arith))
 
--- a signature stays where its item does not hold the stored cell
+-- ---- an item that does not hold the stored cell
+
+module _ (v : Version) (m : List ℕ) (long : length m ≡ imageLength v) (d : Cell) (bs : List ℕ) (fit : FitStore d bs)
+    (e : Cell) (item : isItem e ≡ true) (out : ¬ List·Memᴰ d (cellsOf e)) where
+  -- its bytes add up to what they did
+  pub sum-stays : fullSum e (stored v d bs m) ≡ fullSum e m
+  unfolding fullSum
+  sum-stays = ap (λ (l : List ℕ). sumOf l % 65536) (slice-stays v m long d bs fit e (item-made e item) out (size e) (omega arith))
+
+  -- its word is not among those that change along with the cell
+  word-apart : {x : Signed} → Counts d x → (i : ℕ) → Counted e i → (j : ℕ) → In (keptOffset i) 2 j → ¬ Own (amending x (bits d)) j
+  word-apart (nowhere a) i b j p w = let z = bits-below d j (fit .cell) w in omega arith
+  word-apart (in-word k a) i b j p (inl w) =
+      let same : k ≡ i = omega arith in
+      let whole : itemAt k ≡ e = ap itemAt same ∙ b .is item .1 in
+      out (rw whole at (a .held (fit .cell) .1))
+  word-apart (in-word k a) i b j p (inr w) = let z = bits-below d j (fit .cell) w in omega arith
+
+-- so its signature stays
+module _ (m : List ℕ) (long : length m ≡ imageLength v2) (d : Cell) (bs : List ℕ) (fit : FitStore d bs)
+    (e : Cell) (item : isItem e ≡ true) (out : ¬ List·Memᴰ d (cellsOf e)) where
+  kept-byte : (i : ℕ) → Counted e i → (j : ℕ) → In (keptOffset i) 2 j → getD (stored v2 d bs m) j 0 ≡ getD m j 0
+  kept-byte i b j p =
+      byte-stays v2 d bs fit m long j (λ a. placed v2 d (fit .cell) .words j a (kept-words i (b .is item .0) j p))
+      (word-apart v2 m long d bs fit e item out (counts-view d) i b j p)
+
+  word-stays : {y : Signed} → Counts e y → wordKept y (stored v2 d bs m) ≡ wordKept y m
+  unfolding wordAt
+  word-stays (nowhere a) = refl
+  word-stays (in-word i b) = rw (kept-byte i b (keptOffset i) (omega arith, omega arith), kept-byte i b (keptOffset i + 1) (omega arith, omega arith))
+
 pub signature-stays : (v : Version) (m : List ℕ) → length m ≡ imageLength v → (d : Cell) (bs : List ℕ) → FitStore d bs
     → (e : Cell) → isItem e ≡ true → ¬ List·Memᴰ d (cellsOf e) → signature v e (stored v d bs m) ≡ signature v e m
-unfolding fullSum
-signature-stays v1 m long d bs fit e item out =
-    ap (λ (l : List ℕ). sumOf l % 65536) (slice-stays v1 m long d bs fit e (item-made e item) out (size e) (omega arith))
+signature-stays v1 m long d bs fit e item out = sum-stays v1 m long d bs fit e item out
+signature-stays v2 m long d bs fit e item out = word-stays m long d bs fit e item out (counts-view e)
 
 -- ---- two stores
 
@@ -81,6 +113,6 @@ module _ (v : Version) (m : List ℕ) (long : length m ≡ imageLength v) where
       let behind = touched-lay B Y T (lay m (offset d) Y) (offset c) X (laid-off c d bs cs f g) in
       let off : Disjoint (offset c) (length X) (offset d) (length Y) = (λ i x y. n (one-cell c d (f .cell) (g .cell) i (laid-in f x) (laid-in g y))) in
       ap₂ (λ (l k : List ℕ). touchedAll l Y T k) (old-stays c d bs cs f g n) before
-      ∙ touched-swap B Y A X T S both (touches-agree v d c) (touches-room v d both (g .cell) whole)
+      ∙ touched-swap B Y A X T S both (touches-agree v d c (g .cell) (f .cell)) (touches-room v d both (g .cell) whole)
       ∙ ap (λ (l : List ℕ). touchedAll A X S (touchedAll B Y T l)) (lay-swap m (offset c) X (offset d) Y off)
       ∙ ap₂ (λ (l k : List ℕ). touchedAll l X S k) (sym (old-stays d c cs bs g f (λ e. n (sym e)))) (sym behind)

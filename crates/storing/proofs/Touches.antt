@@ -3,21 +3,24 @@ use mathlib.Core.Path.{_≡_, refl, sym, ap, _∙_, subst}
 use mathlib.Core.Logic.{_⊎_, inl, inr}
 use mathlib.Core.List.{List, [], _∷_}
 use mathlib.Core.Bool.{true}
-use Prim.Native.Nat.{ℕ, _+_, _≤_, _<_}
+use Prim.Native.Nat.{ℕ, _+_, _-_, _%_, _≤_, _<_}
 use native.Mathlib.Decide.{ℕ-discrete}
 use native.Mathlib.Omega.{arith}
 use lib.ListN.{length, getD}
-use Rattle.laws.specs.Bytes.{lay, two, wordAt}
+use Rattle.laws.specs.Bytes.{lay, sumOf, two, wordAt}
 use Rattle.laws.specs.Bits.{withBit}
 use Rattle.laws.proofs.Bytes.{In, Disjoint, length-lay, lay-out, lay-swap, lay-over, length-two, word-two, word-out}
 use Rattle.laws.proofs.Bits.{with-bit-swap}
 use Rattle.image.specs.declared.cell.Cell.{Cell}
 use Rattle.image.specs.declared.cell.Cell.the-variants.{Mask, Mode, Clock, Constants, Errors, Part, Table}
-use Rattle.image.specs.Version.{Version, v1, imageLength}
+use Rattle.image.specs.declared.cell.Signed.{Signed}
+use Rattle.image.specs.declared.cell.Signed.the-variants.{Nowhere, At}
+use Rattle.image.specs.Version.{Version, v1, v2, imageLength}
 use Rattle.image.specs.Cell.{isCell, offset, size}
-use Rattle.image.specs.Words.{words, wordOffset, tableWord}
-use Rattle.image.specs.Stored.{Touch, touched, touchedAll, bitOf, bits, touches}
+use Rattle.image.specs.Words.{words, wordOffset, keptOffset, signatureWord, tableWord}
 use Rattle.image.proofs.Cells.{InSpans, word-inside, table-words, table-word-inside, placed, part-numbers}
+use Rattle.image.proofs.Kept.{Counts, nowhere, in-word, counts-view, kept-words}
+use Rattle.storing.specs.Stored.{Touch, touched, touchedAll, bitOf, bits, amended, amendAt, amending, touches}
 
 -- ---- one touch
 
@@ -96,6 +99,15 @@ abbrev pub AgreeAll : List Touch → List Touch → Type 0
 AgreeAll [] ts = Unit {0}
 AgreeAll (s ∷ ss) ts = AgreeEach s ts × AgreeAll ss ts
 
+agree-back : (s t : Touch) → Agree s t → Agree t s
+agree-back s t (inl a) = inl (sym (a .0), λ o n o′ n′ w. sym (a .1 o′ n′ o n w))
+agree-back s t (inr a) = inr (λ i x y. a i y x)
+
+-- one more, in front of the second
+agree-front : (s : Touch) (ss ts : List Touch) → AgreeEach s ss → AgreeAll ss ts → AgreeAll ss (s ∷ ts)
+agree-front s [] ts a b = tt
+agree-front s (x ∷ ss) ts a b = ((agree-back s x (a .0), b .0), agree-front s ss ts (a .1) (b .1))
+
 module _ (o n : List ℕ) where
   pub touched-length : (ts : List Touch) (m : List ℕ) → length (touchedAll o n ts m) ≡ length m
   touched-length [] m = refl
@@ -104,6 +116,10 @@ module _ (o n : List ℕ) where
   pub touched-byte : (ts : List Touch) (m : List ℕ) (i : ℕ) → ¬ Own ts i → getD (touchedAll o n ts m) i 0 ≡ getD m i 0
   touched-byte [] m i h = refl
   touched-byte (t ∷ ts) m i h = touched-byte ts (touched o n t m) i (λ w. h (inr w)) ∙ one-byte o n t m i (λ w. h (inl w))
+
+  pub touched-word : (ts : List Touch) (m : List ℕ) (i : ℕ) → ¬ Own ts i → ¬ Own ts (i + 1) → wordAt (touchedAll o n ts m) i ≡ wordAt m i
+  unfolding wordAt
+  touched-word ts m i a b = rw (touched-byte ts m i a, touched-byte ts m (i + 1) b)
 
   -- bytes laid elsewhere may come before or after
   pub touched-lay : (ts : List Touch) (m : List ℕ) (a : ℕ) (bs : List ℕ) → ((i : ℕ) → In a (length bs) i → ¬ Own ts i)
@@ -159,7 +175,7 @@ bits-agree c d = go (bit-view c) (bit-view d)
     go part-bit no-bit = (tt, tt)
     go (part-bit {k} {p}) (part-bit {k = j} {p = q}) = ((two-bits k p j q (ℕ-discrete k j), tt), tt)
 
-bits-low : (d : Cell) (i : ℕ) → isCell d ≡ true → Own (bits d) i → (k : ℕ) × (k < 16) × In (wordOffset k) 2 i
+pub bits-low : (d : Cell) (i : ℕ) → isCell d ≡ true → Own (bits d) i → (k : ℕ) × (k < 16) × In (wordOffset k) 2 i
 bits-low d i = go (bit-view d)
   where
     go : {d : Cell} {ts : List Touch} → Bit d ts → isCell d ≡ true → Own ts i → (k : ℕ) × (k < 16) × In (wordOffset k) 2 i
@@ -167,14 +183,64 @@ bits-low d i = go (bit-view d)
     go (part-bit {k} {p}) h (inl w) = (k, part-numbers k p h .0, w)
     go (part-bit {k} {p}) h (inr w) = absurd w
 
+-- so they lie before every signature
+pub bits-below : (d : Cell) (i : ℕ) → isCell d ≡ true → Own (bits d) i → i < keptOffset 0
+bits-below d i h w = let (k, l, a) = bits-low d i h w in omega arith
+
+-- ---- the signature that a cell counts in
+
+-- it is amended first
+pub amend-first : (old new : List ℕ) (x : Signed) (ts : List Touch) (m : List ℕ)
+    → touchedAll old new (amending x ts) m ≡ touchedAll old new ts (touchedAll old new (amending x []) m)
+amend-first old new Nowhere ts m = refl
+amend-first old new (At o) ts m = refl
+
+amend-swap : (w a b c d : ℕ)
+    → ((w + (65536 - a % 65536) + b) % 65536 + (65536 - c % 65536) + d) % 65536 ≡ ((w + (65536 - c % 65536) + d) % 65536 + (65536 - a % 65536) + b) % 65536
+amend-swap w a b c d = omega arith
+
+-- words of two signatures are one or disjoint, and one word may be amended in either order
+words-agree : (i j : ℕ) → Agree (amendAt (keptOffset i)) (amendAt (keptOffset j))
+words-agree i j = go (ℕ-discrete i j)
+  where
+    go : Dec (i ≡ j) → Agree (amendAt (keptOffset i)) (amendAt (keptOffset j))
+    go (yes e) = inl (rw e, λ o n o′ n′ w. amend-swap w (sumOf o′) (sumOf n′) (sumOf o) (sumOf n))
+    go (no n) = inr (λ k x y. n (omega arith))
+
+-- no bit lies in one
+bits-off : (d : Cell) → isCell d ≡ true → (i : ℕ) → AgreeEach (amendAt (keptOffset i)) (bits d)
+bits-off d = go (bit-view d)
+  where
+    go : {d : Cell} {ts : List Touch} → Bit d ts → isCell d ≡ true → (i : ℕ) → AgreeEach (amendAt (keptOffset i)) ts
+    go no-bit h i = tt
+    go (part-bit {k} {p}) h i = let l = part-numbers k p h .0 in (inr (λ j x y. let z : ⊥ = omega arith in z), tt)
+
+module _ (c d : Cell) (h : isCell c ≡ true) (g : isCell d ≡ true) where
+  amends-agree : {x y : Signed} → Counts c x → Counts d y → AgreeAll (amending x (bits c)) (amending y (bits d))
+  amends-agree (nowhere a) (nowhere b) = bits-agree c d
+  amends-agree (nowhere a) (in-word j b) = agree-front (amendAt (keptOffset j)) (bits c) (bits d) (bits-off c h j) (bits-agree c d)
+  amends-agree (in-word i a) (nowhere b) = (bits-off d g i, bits-agree c d)
+  amends-agree (in-word i a) (in-word j b) =
+      ((words-agree i j, bits-off d g i), agree-front (amendAt (keptOffset j)) (bits c) (bits d) (bits-off c h j) (bits-agree c d))
+
 -- ---- all touches of a version
 
-pub touches-agree : (v : Version) (c d : Cell) → AgreeAll (touches v c) (touches v d)
-touches-agree v1 = bits-agree
+pub touches-agree : (v : Version) (c d : Cell) → isCell c ≡ true → isCell d ≡ true → AgreeAll (touches v c) (touches v d)
+touches-agree v1 c d h g = bits-agree c d
+touches-agree v2 c d h g = amends-agree c d h g (counts-view c) (counts-view d)
 
 -- each is of a word
 pub touches-low : (v : Version) (d : Cell) (i : ℕ) → isCell d ≡ true → Own (touches v d) i → InSpans (words v) i
 touches-low v1 d i h w = let (k, l, a) = bits-low d i h w in table-words v1 k l i a
+touches-low v2 d i h w = go (counts-view d) w
+  where
+    of-bits : Own (bits d) i → InSpans (words v2) i
+    of-bits w = let (k, l, a) = bits-low d i h w in table-words v2 k l i a
+
+    go : {x : Signed} → Counts d x → Own (amending x (bits d)) i → InSpans (words v2) i
+    go (nowhere a) w = of-bits w
+    go (in-word j a) (inl w) = kept-words j (a .held h .0) i w
+    go (in-word j a) (inr w) = of-bits w
 
 -- no touch lies in a cell
 pub no-touch-in-cell : (v : Version) (c d : Cell) → isCell c ≡ true → isCell d ≡ true → (i : ℕ) → In (offset c) (size c) i → ¬ Own (touches v d) i
@@ -212,10 +278,32 @@ module _ (o n m : List ℕ) where
           let b = part-numbers k p h in
           of-part k p (b .0) (b .1) (l k (b .0)) (ℕ-discrete k j)
 
-  pub word-after : (v : Version) (d : Cell) (j : ℕ) → isCell d ≡ true → length m ≡ imageLength v
+  -- a signature that is amended changes none of them
+  amend-apart : (i j : ℕ) → j < 16 → tableWord (touched o n (amendAt (keptOffset i)) m) j ≡ tableWord m j
+  unfolding tableWord
+  amend-apart i j l =
+      one-word o n (amendAt (keptOffset i)) m (wordOffset j) (λ z. let y : ⊥ = omega arith in y) (λ z. let y : ⊥ = omega arith in y)
+
+-- all of them lie inside
+room : (v : Version) (m : List ℕ) → length m ≡ imageLength v → (k : ℕ) → k < 16 → wordOffset k + 2 ≤ length m
+room v m l k a = rw l (table-word-inside v k a)
+
+module _ (o n m : List ℕ) where
+  amended-after : (d : Cell) (j : ℕ) {x : Signed} → Counts d x → isCell d ≡ true → j < 16 → length m ≡ imageLength v2
+      → WordAfter d j (tableWord m j) (tableWord (touchedAll o n (amending x (bits d)) m) j)
+  amended-after d j (nowhere a) h b l = bits-after o n m d j h (room v2 m l)
+  amended-after d j (in-word i a) h b l =
+      let m′ = touched o n (amendAt (keptOffset i)) m in
+      rw (amend-apart o n m i j b) at (bits-after o n m′ d j h (room v2 m′ (one-length o n (amendAt (keptOffset i)) m ∙ l)))
+
+  pub word-after : (v : Version) (d : Cell) (j : ℕ) → isCell d ≡ true → j < 16 → length m ≡ imageLength v
       → WordAfter d j (tableWord m j) (tableWord (touchedAll o n (touches v d) m) j)
-  word-after v1 d j h l = bits-after d j h (λ k a. rw l (table-word-inside v1 k a))
+  word-after v1 d j h b l = bits-after o n m d j h (room v1 m l)
+  word-after v2 d j h b l = amended-after d j (counts-view d) h b l
 
   pub own-word : (v : Version) (k p : ℕ) → k < 16 → length m ≡ imageLength v
       → tableWord (touchedAll o n (touches v (Part k p)) m) k ≡ withBit (tableWord m k) p
-  own-word v1 k p a l = own-bit-set k p (rw l (table-word-inside v1 k a))
+  own-word v1 k p a l = own-bit-set o n m k p (room v1 m l k a)
+  own-word v2 k p a l =
+      let t = amendAt (keptOffset k) in
+      own-bit-set o n (touched o n t m) k p (rw (one-length o n t m) (room v2 m l k a)) ∙ ap (λ (w : ℕ). withBit w p) (amend-apart o n m k k a)

@@ -1,0 +1,210 @@
+-- On images that hold the same, with true words, a block of version 1 and one of version 2 answer each frame alike, number, length and whole output, and
+-- go on holding the same. Fresh images do, so from there on the two cannot be told apart on the line. Assumes nothing.
+use mathlib.Core.Path.{_≡_, refl, sym, ap, ap₂, _∙_}
+use mathlib.Core.Logic.{_≢_, inl, inr, Dec·and}
+use mathlib.Core.List.{List, [], _∷_, _++_}
+use mathlib.Core.Bool.{true}
+use Prim.Native.Nat.{ℕ, _+_, _-_, _%_, _≤_, _<_}
+use native.Mathlib.Decide.{decLt, decLe, ℕ-discrete}
+use native.Mathlib.Omega.{arith}
+use lib.ListN.{length, getD, take, drop}
+use Rattle.laws.specs.Bytes.{slice, lay, padded, sumOf, two, wordAt}
+use Rattle.laws.specs.Bits.{withBit}
+use Rattle.laws.proofs.Bytes.{In, length-lay, lay-in, lay-out, slice-both}
+use Rattle.reorder.specs.Reorder.{outcomes}
+use Rattle.frame.specs.Apart.{contentsOf}
+use Rattle.frame.specs.Built.{frameOf}
+use Rattle.image.specs.declared.cell.Cell.{Cell}
+use Rattle.image.specs.declared.cell.Signed.{Signed}
+use Rattle.image.specs.Version.{v1, v2, imageLength}
+use Rattle.image.specs.Cell.{offset, size, extent, isCell, isItem}
+use Rattle.image.specs.Words.{wordOffset, keptOffset, signatureWord}
+use Rattle.image.specs.Usable.{address}
+use Rattle.image.specs.Fresh.{fresh}
+use Rattle.image.proofs.Cells.{placed, size-some, part-numbers}
+use Rattle.image.proofs.UsableFacts.{facts}
+use Rattle.image.proofs.FreshImage.{head, head-at, rest-at, fresh-usable}
+use Rattle.image.proofs.Stretches.{item-inside, item-low}
+use Rattle.image.proofs.Kept.{Counts, nowhere, in-word, counts-view}
+use Rattle.storing.specs.Signature.{fullSum, TrueWords}
+use Rattle.storing.specs.Stored.{Touch, touchedAll, bits, amending, stored, FitStore}
+use Rattle.storing.proofs.Touches.{Own, touched-byte, touched-length, Bit, no-bit, part-bit, bit-view, amend-first}
+use Rattle.storing.proofs.Elsewhere.{extent-fits}
+use Rattle.rules.specs.declared.rule.Act.{Act}
+use Rattle.rules.specs.declared.rule.Act.the-variants.{Show, Sign, Store}
+use Rattle.rules.specs.declared.switch.Switch.{Switch}
+use Rattle.rules.specs.declared.verdict.Verdict.{Verdict}
+use Rattle.rules.specs.declared.verdict.Verdict.the-variants.{Refused, Accepted}
+use Rattle.rules.specs.Fits.{Fit, FitVerdict}
+use Rattle.command.specs.Act.{says, leaves}
+use Rattle.command.specs.Reply.{done}
+use Rattle.izk.specs.Heard.{heard, answered, Hearing, Lawful}
+use Rattle.izk.specs.Block.{served}
+use Rattle.izk.specs.Since.{Turn, inTurn}
+use Rattle.izk.proofs.Hearing.{heard-lawful}
+use Rattle.izk.proofs.Serving.{served-is, no-room-is-2, usable-stays}
+use Rattle.kept.specs.Same.{Same, asked}
+use Rattle.kept.proofs.Truth.{fresh-true, call-true}
+
+-- ---- bytes in common
+
+-- from the address on, up to the end of version 1
+abbrev pub Common : List ℕ → List ℕ → Type 0
+Common m n = (i : ℕ) → 5 ≤ i → i < imageLength v1 → getD m i 0 ≡ getD n i 0
+
+module _ (m n : List ℕ) (long : imageLength v1 ≤ length m) (long′ : imageLength v1 ≤ length n) (same : Common m n) where
+  common-lay : (a : ℕ) (bs : List ℕ) → Common (lay m a bs) (lay n a bs)
+  common-lay a bs i low high = go (Dec·and (decLe a i) (decLt i (a + length bs)))
+    where
+      go : Dec (In a (length bs) i) → getD (lay m a bs) i 0 ≡ getD (lay n a bs) i 0
+      go (yes p) =
+          let j : a + (i - a) ≡ i = omega arith in
+          rw (← j) (lay-in m a bs (i - a) (omega arith) (omega arith) ∙ sym (lay-in n a bs (i - a) (omega arith) (omega arith)))
+      go (no p) = lay-out m a bs i p ∙ same i low high ∙ sym (lay-out n a bs i p)
+
+  common-slice : (a k : ℕ) → 5 ≤ a → a + k ≤ imageLength v1 → slice a k m ≡ slice a k n
+  common-slice a k low high = slice-both m n a k (omega arith) (omega arith) (λ i p. same i (omega arith) (omega arith))
+
+  -- a part's bit is set alike in both, whatever the part's bytes were
+  common-bits : (o o′ new new′ : List ℕ) (d : Cell) → isCell d ≡ true → Common (touchedAll o new (bits d) m) (touchedAll o′ new′ (bits d) n)
+  unfolding wordAt
+  common-bits o o′ new new′ d = go (bit-view d)
+    where
+      word : (k : ℕ) → k < 16 → wordAt m (wordOffset k) ≡ wordAt n (wordOffset k)
+      word k l = rw (same (wordOffset k) (omega arith) (omega arith), same (wordOffset k + 1) (omega arith) (omega arith))
+
+      go : {d : Cell} {ts : List Touch} → Bit d ts → isCell d ≡ true → Common (touchedAll o new ts m) (touchedAll o′ new′ ts n)
+      go no-bit h = same
+      go (part-bit {k} {p}) h =
+          let b = part-numbers k p h in
+          rw (word k (b .0)) (common-lay (wordOffset k) (two (withBit (wordAt n (wordOffset k)) p)))
+
+-- a signature stands behind the end of version 1
+amend-unseen : (o new : List ℕ) (d : Cell) (n : List ℕ) → Common (touchedAll o new (amending (signatureWord d) []) n) n
+amend-unseen o new d n i low high = touched-byte o new (amending (signatureWord d) []) n i (off (counts-view d))
+  where
+    off : {x : Signed} → Counts d x → ¬ Own (amending x []) i
+    off (nowhere a) w = w
+    off (in-word j a) (inl w) = let z : ⊥ = omega arith in z
+    off (in-word j a) (inr w) = w
+
+-- ---- an act
+
+module _ (m n : List ℕ) (s : Same m n) where
+  long : imageLength v1 ≤ length m
+  long = omega (arith, facts v1 m (s .first) .long-is)
+
+  long′ : imageLength v1 ≤ length n
+  long′ = omega (arith, facts v2 n (s .second) .long-is)
+
+  sums-alike : (d : Cell) → isItem d ≡ true → fullSum d m ≡ fullSum d n
+  unfolding fullSum
+  sums-alike d h =
+      ap (λ (l : List ℕ). sumOf l % 65536)
+      (common-slice m n long long′ (s .bytes) (offset d) (size d) (omega (arith, item-low d h)) (item-inside v1 d h))
+
+  says-alike : (a : Act) (d : Cell) (c : List ℕ) → Fit a d c → says v1 a d m ≡ says v2 a d n
+  says-alike Show d c f =
+      let p = placed v1 d f in
+      let z : getD m (offset d) 0 ≡ getD n (offset d) 0 = s .bytes (offset d) (omega (arith, p .low)) (omega (arith, p .high, size-some d f)) in
+      let few = extent-fits v1 m (facts v1 m (s .first)) d f in
+      common-slice m n long long′ (s .bytes) (offset d) (extent d (getD m (offset d) 0)) (omega (arith, p .low)) (omega (arith, p .high, few))
+      ∙ ap (λ (k : ℕ). slice (offset d) (extent d k) n) z
+  says-alike Sign d c f = ap two (sums-alike d f ∙ sym (s .words d f))
+  says-alike (Store k) d c f = refl
+
+  stored-alike : (d : Cell) (bs : List ℕ) → FitStore d bs → Common (stored v1 d bs m) (stored v2 d bs n)
+  unfolding stored
+  stored-alike d bs fit =
+      let new = padded (size d) bs in
+      let old = slice (offset d) (size d) m in
+      let old′ = slice (offset d) (size d) n in
+      let under = lay m (offset d) new in
+      let under′ = lay n (offset d) new in
+      let over = touchedAll old′ new (amending (signatureWord d) []) under′ in
+      let l : imageLength v1 ≤ length under = rw (length-lay m (offset d) new) long in
+      let l′ : imageLength v1 ≤ length over =
+      rw (touched-length old′ new (amending (signatureWord d) []) under′, length-lay n (offset d) new) long′ in
+      let laid : Common under over =
+      (λ i low high. common-lay m n long long′ (s .bytes) (offset d) new i low high ∙ sym (amend-unseen old′ new d under′ i low high)) in
+      rw (amend-first old′ new (signatureWord d) (bits d) under′) (common-bits under over l l′ laid old old′ new new d (fit .cell))
+
+  leaves-alike : (a : Act) (d : Cell) (c : List ℕ) → Fit a d c → Common (leaves v1 a d c m) (leaves v2 a d c n)
+  leaves-alike Show d c f = s .bytes
+  leaves-alike Sign d c f = s .bytes
+  leaves-alike (Store k) d c f = stored-alike d (drop k c) f
+
+  -- ---- what is answered
+
+  one-address : address m ≡ address n
+  one-address = s .bytes 5 (omega arith) (omega arith)
+
+  number-alike : (r : Verdict) (c : List ℕ) → done v1 r c m .number ≡ done v2 r c n .number
+  number-alike (Refused k) c = refl
+  number-alike (Accepted e a d) c = refl
+
+  reply-alike : (r : Verdict) (c : List ℕ) → FitVerdict r c → done v1 r c m .reply ≡ done v2 r c n .reply
+  reply-alike (Refused k) c f = refl
+  reply-alike (Accepted e a d) c f = ap (λ (l : List ℕ). frameOf (take (2 + e) c ++ l)) (says-alike a d c (f .act))
+
+  image-alike : (r : Verdict) (c : List ℕ) → FitVerdict r c → Common (done v1 r c m .image) (done v2 r c n .image)
+  image-alike (Refused k) c f = s .bytes
+  image-alike (Accepted e a d) c f = leaves-alike a d c (f .act)
+
+  -- ---- a turn
+
+  module _ (ear : Switch → Hearing) (ok : (k : Switch) → Lawful (ear k)) (x : Turn) where
+    abbrev fits : FitVerdict (ear (x .switch) (address n) (x .frame)) (contentsOf (x .frame))
+    fits = ok (x .switch) .fits (address n) (x .frame)
+
+    -- with room for a reply, or without
+    pub turn-alike : (asked ear v1 m x .0 ≡ asked ear v2 n x .0) × Common (inTurn ear v1 m x .image) (inTurn ear v2 n x .image)
+    unfolding answered
+    turn-alike = go (decLe 269 (length (x .out)))
+      where
+        go : Dec (269 ≤ length (x .out)) → (asked ear v1 m x .0 ≡ asked ear v2 n x .0) × Common (inTurn ear v1 m x .image) (inTurn ear v2 n x .image)
+        go (no r) =
+            rw (
+              no-room-is-2 (ear (x .switch)) v1 (x .frame) m (x .out) (s .first) (omega arith),
+              no-room-is-2 (ear (x .switch)) v2 (x .frame) n (x .out) (s .second) (omega arith),
+            ) (refl, s .bytes)
+        go (yes r) =
+            let verdict = ear (x .switch) (address n) (x .frame) in
+            let c = contentsOf (x .frame) in
+            rw (
+              served-is (ear (x .switch)) v1 (x .frame) m (x .out) (s .first) r,
+              served-is (ear (x .switch)) v2 (x .frame) n (x .out) (s .second) r,
+              one-address,
+              number-alike verdict c,
+              reply-alike verdict c fits,
+            ) (refl, image-alike verdict c fits)
+
+    pub stays-same : Same (inTurn ear v1 m x .image) (inTurn ear v2 n x .image)
+    stays-same =
+        record {
+          first = usable-stays (ear (x .switch)) (ok (x .switch)) v1 (x .frame) m (x .out) (s .first);
+          second = usable-stays (ear (x .switch)) (ok (x .switch)) v2 (x .frame) n (x .out) (s .second);
+          bytes = turn-alike .1;
+          words = call-true ear ok n x (s .words);
+        }
+
+-- ---- calls one after the other
+
+module _ (ear : Switch → Hearing) (ok : (k : Switch) → Lawful (ear k)) where
+  pub answers-alike : (m n : List ℕ) → Same m n → (xs : List Turn) → outcomes (asked ear v1) m xs ≡ outcomes (asked ear v2) n xs
+  answers-alike m n s [] = refl
+  answers-alike m n s (x ∷ xs) =
+      ap₂ _∷_ (turn-alike m n s ear ok x .0) (answers-alike (inTurn ear v1 m x .image) (inTurn ear v2 n x .image) (stays-same m n s ear ok x) xs)
+
+-- fresh images hold the same
+pub fresh-same : (a : ℕ) → a ≢ 0 → Same (fresh v1 a) (fresh v2 a)
+fresh-same a some =
+    record { first = fresh-usable v1 a some; second = fresh-usable v2 a some; bytes = λ i low high. go i low (ℕ-discrete i 5); words = fresh-true a }
+  where
+    go : (i : ℕ) → 5 ≤ i → Dec (i ≡ 5) → getD (fresh v1 a) i 0 ≡ getD (fresh v2 a) i 0
+    go i low (yes e) = rw e (head-at v1 a 5 (omega arith) ∙ sym (head-at v2 a 5 (omega arith)))
+    go i low (no n) = rest-at v1 a i (omega arith) ∙ sym (rest-at v2 a i (omega arith))
+
+-- so whatever is asked from there on, in either position of the switch and with any outputs, the answers are the same
+pub versions-answer-alike : (a : ℕ) → a ≢ 0 → (xs : List Turn) → outcomes (asked heard v1) (fresh v1 a) xs ≡ outcomes (asked heard v2) (fresh v2 a) xs
+versions-answer-alike a some xs = answers-alike heard heard-lawful (fresh v1 a) (fresh v2 a) (fresh-same a some) xs

@@ -1,0 +1,4 @@
+pub mod Truth
+pub mod Answers
+pub mod Writes
+pub mod Alike

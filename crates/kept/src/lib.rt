@@ -1,0 +1,1 @@
+// No code: the signatures that an image keeps, proved over the definition of serving.

@@ -1,0 +1,5 @@
+pub mod Touches
+pub mod Stores
+pub mod Elsewhere
+pub mod Signatures
+pub mod Storing

@@ -1,0 +1,7 @@
+// Storing bytes in a cell of the image, with the bit and the signature that go along; and what is signed.
+mod signature;
+mod stored;
+
+pub use signature::signature_of;
+pub use signature::sum;
+pub use stored::store;
