@@ -99,6 +99,14 @@ planted 'an older table not read' '^  at       record S :013F01BF' probe - "sed 
 planted 'a sealed mask refused but written' '^  line     19$' probe - "sed '19s/^K 16 0 ./&9/'"
 # Of the paper's rows when sealed, P8 is on line 9, refused 10, and behind it comes P9, with a reply of 15 bytes.
 planted 'a sealed signature refused' '^  at       record K :013D01C1' probe - "sed '9{/^K 10 0 /{n;s/^K 0 15 /K 16 0 /}}'"
+# A fresh image of address 1 has the first digest with its 64 bytes of signatures and the second without them.
+planted 'signatures left out of the digest' '^  got      F 0 653123886<0A>' probe - "sed 's/^F 0 2232525539\$/F 0 653123886/'"
+# The first fixed write of a signed item is on line 3; the second digest is that of the image with the part written and the signature left.
+planted 'a signature not amended' '^FAILED probe script [0-9]+ \(signatures, each item\)' probe - "sed '3s/^S 0 13 2512263563 /S 0 13 2719707349 /'"
+# All signatures are false on empty items, and table 1's is asked first. The last digest is that of the reply with 0, the full sum, in it.
+planted 'a false signature summed anew' '^FAILED probe script [0-9]+ \(signatures, as they stand\)' probe - "sed '2s/^\(S 0 15 4156032078\) .*/\1 2031877812/'"
+# Part 3 of table 12 is written, and behind it table 2 is asked.
+planted "table 12's signature at table 2's place" '^  at       piece :013D02C0' desk - "sed '1{/^0 :013B0C03B5\$/{n;s/^0 :013D020000C0\$/0 :013D0212347A/}}'"
 planted 'a bad end of the probe' 'ended with exit status: 3$' probe 3 cat
 echo "self: $passed passed, $failed failed"
 [ "$failed" -eq 0 ]

@@ -6,7 +6,7 @@
 
 use std::ops::{Range, RangeInclusive};
 
-pub const IMAGE_BYTES: usize = 23_753;
+pub const IMAGE_BYTES: usize = 23_817;
 
 const FRAME_MIN: usize = 9;
 const FRAME_MAX: usize = 269;
@@ -15,15 +15,21 @@ const CONTENTS_MIN: usize = 2;
 const CONTENTS_MAX: usize = BODY_MAX - 1;
 
 // Places in the image.
-const HEAD: [u8; 5] = *b"IZK\x00\x01"; // mark and version
+const HEAD: [u8; 5] = *b"IZK\x00\x02"; // mark and version
 const ADDRESS: usize = 5;
 const MASK: usize = 6;
 const MODE: usize = 7;
 const CLOCK: Range<usize> = 8..17;
-const WORDS: usize = 17;
+const HELD: usize = 17;
 const CONSTANTS: usize = 49;
 const ERRORS: usize = 713;
 const TABLES: usize = 1225;
+const SIGNATURES: usize = 23_753;
+
+// Document 02, wish 7: the signatures of the tables come first. So many stand
+// before those of the constants, and so many before those of the error tables.
+const BEFORE_CONSTANTS: usize = 16;
+const BEFORE_ERRORS: usize = 24;
 
 // Sizes of the items kept there.
 const CONSTANTS_BYTES: usize = 83;
@@ -171,7 +177,8 @@ pub fn held_parts(image: &[u8], table: u32) -> Result<(u32, u32), Refusal> {
     Ok((word.count_ones(), missing))
 }
 
-/// Only what later steps rely on is judged: length, head, counts and words.
+/// Only what later steps rely on is judged: length, head, counts and the words
+/// of parts held. A signature may be anything; it is answered as it stands.
 fn usable(image: &[u8]) -> bool {
     image.len() == IMAGE_BYTES
         && image[..HEAD.len()] == HEAD
@@ -274,13 +281,13 @@ fn obey(image: &mut [u8], command: u8, data: &[u8], reply: &mut Reply) -> Result
         51 => write_mask(image, data, reply),
         53 => write_constants(image, data),
         54 => read_constants(image, data, reply),
-        55 => sign(image, data, reply, constants_place),
+        55 => sign(image, data, reply, constants_signature),
         59 => write_part(image, data, reply),
         60 => read_part(image, data, reply),
-        61 => sign(image, data, reply, table_place),
+        61 => sign(image, data, reply, table_signature),
         62 => write_errors(image, data, reply),
         63 => read_errors(image, data, reply),
-        64 => sign(image, data, reply, errors_place),
+        64 => sign(image, data, reply, errors_signature),
         76 => write_mode(image, data, reply),
         77 => write_clock(image, data),
         78 => read_clock(image, data, reply),
@@ -344,7 +351,8 @@ fn write_constants(image: &mut [u8], data: &[u8]) -> Result<(), Refusal> {
     if !(1..=13).contains(&gas) || !reserve_clear {
         return Err(Refusal::Value);
     }
-    image[place].copy_from_slice(constants);
+    let signature = constants_signature(*channel)?;
+    replace(image, place, constants, signature);
     Ok(())
 }
 
@@ -360,9 +368,9 @@ fn write_part(image: &mut [u8], data: &[u8], reply: &mut Reply) -> Result<(), Re
     let [table, part, rows @ ..] = exactly::<{ 2 + PART_BYTES }>(data)?;
     let index = table_index(u32::from(*table))?;
     let place = part_place(index, *part)?;
-    image[place].copy_from_slice(rows);
-    let word = held_word(image, index) | 1 << (part - 1);
-    image[word_place(index)].copy_from_slice(&word.to_be_bytes());
+    replace(image, place, rows, table_signature(*table)?);
+    let held = held_word(image, index) | 1 << (part - 1);
+    put_word(image, held_place(index), held);
     reply.put(&[*table, *part]);
     Ok(())
 }
@@ -391,11 +399,12 @@ fn write_errors(image: &mut [u8], data: &[u8], reply: &mut Reply) -> Result<(), 
     if !temperatures.is_sorted_by(|earlier, later| earlier < later) {
         return Err(Refusal::Value);
     }
-    let table = &mut image[place];
+    // A longer table may have stood here. None of its rows may stay behind, so
+    // the zeros come with the others and count among what came.
+    let mut table = [0; ERRORS_BYTES];
     table[0] = *count;
     table[1..=rows.len()].copy_from_slice(rows);
-    // A longer table may have stood here; none of its rows may stay behind.
-    table[1 + rows.len()..].fill(0);
+    replace(image, place, &table, errors_signature(*number)?);
     reply.put(&[*number]);
     Ok(())
 }
@@ -419,43 +428,76 @@ fn read_errors(image: &[u8], data: &[u8], reply: &mut Reply) -> Result<(), Refus
     Ok(())
 }
 
-/// Answers 55, 61 and 64: the bytes stored at the item's place, summed and
-/// kept to 16 bits.
+/// Answers 55, 61 and 64 with the stored signature, be it true or false
+/// (document 02, wish 7). No byte of the item is looked at.
 fn sign(
     image: &[u8],
     data: &[u8],
     reply: &mut Reply,
-    place: fn(u8) -> Result<Range<usize>, Refusal>,
+    signature: fn(u8) -> Result<Range<usize>, Refusal>,
 ) -> Result<(), Refusal> {
     let &[item] = exactly(data)?;
-    let sum: u32 = image[place(item)?]
-        .iter()
-        .map(|&byte| u32::from(byte))
-        .sum();
+    let place = signature(item)?;
     reply.put(&[item]);
-    reply.put(&(sum as u16).to_be_bytes());
+    reply.put(&image[place]);
     Ok(())
 }
 
-/// Constants count their channels from 0.
+/// Puts bytes in the place of others and amends their item's signature by what
+/// left and what came, remainder by 65,536 (document 02, wish 7). The rest of
+/// the item is not looked at, so a signature that was false stays false by the
+/// same amount.
+fn replace(image: &mut [u8], place: Range<usize>, bytes: &[u8], signature: Range<usize>) {
+    let left = sum(&image[place.clone()]);
+    let amended = word(image, signature.clone())
+        .wrapping_sub(left)
+        .wrapping_add(sum(bytes));
+    image[place].copy_from_slice(bytes);
+    put_word(image, signature, amended);
+}
+
+/// For at most 128 bytes, so it stays below 65,536.
+fn sum(bytes: &[u8]) -> u16 {
+    bytes.iter().map(|&byte| u16::from(byte)).sum()
+}
+
 fn constants_place(channel: u8) -> Result<Range<usize>, Refusal> {
+    Ok(span(CONSTANTS, channel_index(channel)?, CONSTANTS_BYTES))
+}
+
+fn errors_place(number: u8) -> Result<Range<usize>, Refusal> {
+    Ok(span(ERRORS, errors_index(number)?, ERRORS_BYTES))
+}
+
+fn table_signature(table: u8) -> Result<Range<usize>, Refusal> {
+    let index = table_index(u32::from(table))?;
+    Ok(span(SIGNATURES, index, 2))
+}
+
+fn constants_signature(channel: u8) -> Result<Range<usize>, Refusal> {
+    let index = channel_index(channel)?;
+    Ok(span(SIGNATURES, BEFORE_CONSTANTS + index, 2))
+}
+
+fn errors_signature(number: u8) -> Result<Range<usize>, Refusal> {
+    let index = errors_index(number)?;
+    Ok(span(SIGNATURES, BEFORE_ERRORS + index, 2))
+}
+
+/// Constants count their channels from 0.
+fn channel_index(channel: u8) -> Result<usize, Refusal> {
     match channel {
-        0..=7 => Ok(span(CONSTANTS, usize::from(channel), CONSTANTS_BYTES)),
+        0..=7 => Ok(usize::from(channel)),
         _ => Err(Refusal::Item),
     }
 }
 
 /// Error tables count from 1.
-fn errors_place(number: u8) -> Result<Range<usize>, Refusal> {
+fn errors_index(number: u8) -> Result<usize, Refusal> {
     match number {
-        1..=8 => Ok(span(ERRORS, usize::from(number - 1), ERRORS_BYTES)),
+        1..=8 => Ok(usize::from(number - 1)),
         _ => Err(Refusal::Item),
     }
-}
-
-fn table_place(table: u8) -> Result<Range<usize>, Refusal> {
-    let index = table_index(u32::from(table))?;
-    Ok(span(TABLES, index, TABLE_BYTES))
 }
 
 /// Main tables take the places 0 to 7, additional ones 8 to 15.
@@ -477,13 +519,21 @@ fn part_place(index: usize, part: u8) -> Result<Range<usize>, Refusal> {
     }
 }
 
-fn word_place(index: usize) -> Range<usize> {
-    span(WORDS, index, 2)
+fn held_place(index: usize) -> Range<usize> {
+    span(HELD, index, 2)
 }
 
 fn held_word(image: &[u8], index: usize) -> u16 {
-    let at = word_place(index).start;
-    u16::from_be_bytes([image[at], image[at + 1]])
+    word(image, held_place(index))
+}
+
+/// The word at a place of two bytes, high byte first.
+fn word(image: &[u8], place: Range<usize>) -> u16 {
+    u16::from_be_bytes([image[place.start], image[place.start + 1]])
+}
+
+fn put_word(image: &mut [u8], place: Range<usize>, word: u16) {
+    image[place].copy_from_slice(&word.to_be_bytes());
 }
 
 fn span(start: usize, index: usize, bytes: usize) -> Range<usize> {

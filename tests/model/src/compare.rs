@@ -10,6 +10,7 @@ use std::thread;
 use std::time::Duration;
 
 use crate::coverage::{Before, Came, Coverage};
+use crate::desk::Desk;
 use crate::probe::{serving, Probe, Record, Records};
 use crate::{desk, desk_streams, probe_scripts};
 
@@ -99,22 +100,8 @@ type Try = fn(&Options, usize, &mut Coverage) -> Result<(), String>;
 fn try_desk(options: &Options, number: usize, coverage: &mut Coverage) -> Result<(), String> {
     let seed = options.seed;
     let (name, input) = desk_streams::stream(seed, number);
-    let expected = desk::lines(&input);
-    let fixed = desk_streams::is_fixed(number);
-    if input.len() <= desk::INPUT_MAX {
-        for (line, piece) in expected.iter().zip(desk::pieces(&input)) {
-            coverage.count(&Came {
-                call: 'D',
-                drawn: !fixed,
-                input: piece,
-                number: number_in(line, 0),
-                line,
-                reply: line.strip_prefix("0 ").unwrap_or_default().as_bytes(),
-                image: &[],
-                before: None,
-            });
-        }
-    }
+    let drawn = !desk_streams::is_fixed(number);
+    let expected = desk_calls(&input, drawn, |came| coverage.count(came));
     let about = |line: usize| match desk::pieces(&input).nth(line) {
         _ if input.len() > desk::INPUT_MAX => format!("input of {} bytes", input.len()),
         Some(piece) => format!("piece {}", printable(piece)),
@@ -127,32 +114,70 @@ fn try_desk(options: &Options, number: usize, coverage: &mut Coverage) -> Result
 fn try_probe(options: &Options, number: usize, coverage: &mut Coverage) -> Result<(), String> {
     let seed = options.seed;
     let (name, script) = probe_scripts::script(seed, number);
-    let mut expected = Vec::new();
-    let mut probe = Probe::new();
-    let fixed = probe_scripts::is_fixed(number);
-    let mut before: Option<Before> = None;
-    for record in Records::new(&script) {
-        if let Some(line) = probe.step(record) {
-            if let Some((call, input)) = call_of(record) {
-                let number = number_in(&line, 1);
-                coverage.count(&Came {
-                    call,
-                    drawn: !fixed,
-                    input: &input,
-                    number,
-                    line: &line,
-                    reply: probe.reply(),
-                    image: probe.image(),
-                    before: before.as_ref(),
-                });
-                before = Some((call, number, input));
-            }
-            expected.push(line);
-        }
-    }
+    let drawn = !probe_scripts::is_fixed(number);
+    let expected = probe_calls(&script, drawn, |came| coverage.count(came));
     let about = |line| describe(&script, line);
     judge((&options.probe, &options.prefix), &script, &expected, about)
         .map_err(|fault| format!("probe script {number} ({name}), seed {seed}\n{fault}"))
+}
+
+/// The desk's lines. Each piece that is served is shown as it comes up.
+pub fn desk_calls(input: &[u8], drawn: bool, mut show: impl FnMut(&Came)) -> Vec<String> {
+    if input.len() > desk::INPUT_MAX {
+        return desk::lines(input);
+    }
+    let mut desk = Desk::new();
+    let mut lines = Vec::new();
+    let mut before: Option<Before> = None;
+    for piece in desk::pieces(input) {
+        let image_before = desk.image().to_vec();
+        let line = desk.step(piece);
+        let number = number_in(&line, 0);
+        show(&Came {
+            call: 'D',
+            drawn,
+            input: piece,
+            number,
+            line: &line,
+            reply: line.strip_prefix("0 ").unwrap_or_default().as_bytes(),
+            image_before: &image_before,
+            image: desk.image(),
+            before: before.as_ref(),
+        });
+        before = Some(('D', number, piece.to_vec()));
+        lines.push(line);
+    }
+    lines
+}
+
+/// The probe's lines. Each call is shown as it comes up.
+pub fn probe_calls(script: &[u8], drawn: bool, mut show: impl FnMut(&Came)) -> Vec<String> {
+    let mut probe = Probe::new();
+    let mut lines = Vec::new();
+    let mut before: Option<Before> = None;
+    for record in Records::new(script) {
+        let image_before = probe.image().to_vec();
+        let Some(line) = probe.step(record) else {
+            continue;
+        };
+        if let Some((call, input)) = call_of(record) {
+            let number = number_in(&line, 1);
+            show(&Came {
+                call,
+                drawn,
+                input: &input,
+                number,
+                line: &line,
+                reply: probe.reply(),
+                image_before: &image_before,
+                image: probe.image(),
+                before: before.as_ref(),
+            });
+            before = Some((call, number, input));
+        }
+        lines.push(line);
+    }
+    lines
 }
 
 /// The letter of a call and what it is given.

@@ -2,6 +2,7 @@
 
 mod checksum;
 mod sealed;
+mod signatures;
 mod temperatures;
 
 use std::collections::BTreeMap;
@@ -53,9 +54,11 @@ pub struct Came<'a> {
     pub line: &'a str,
     /// If it served a frame, the reply without its last two bytes.
     pub reply: &'a [u8],
-    /// The image after it, which for the desk program is not known.
+    /// The image before it.
+    pub image_before: &'a [u8],
+    /// The image after it.
     pub image: &'a [u8],
-    /// The call before it in its script.
+    /// The call before it in its stream or script.
     pub before: Option<&'a Before>,
 }
 
@@ -91,6 +94,9 @@ enum Thing {
     Misread(char, bool, usize, bool),
     /// What is counted of the switch; the first value is the command.
     Switch(u8, sealed::Kind),
+    /// What is counted of the signatures, by whether the call was drawn and by
+    /// its command.
+    Signature(char, bool, u8, signatures::Kind),
 }
 
 /// How often each thing that the test must reach was reached.
@@ -98,6 +104,8 @@ pub struct Coverage {
     things: BTreeMap<Thing, usize>,
     /// By fixed call with its line: the rules that it shows, a call each.
     fixed: BTreeMap<fixed::Seen, (Vec<String>, usize)>,
+    /// The words of each wrong block that is given the desk's stream as well.
+    desk_words: Vec<signatures::Words>,
 }
 
 impl Coverage {
@@ -105,6 +113,7 @@ impl Coverage {
         let mut coverage = Coverage {
             things: BTreeMap::new(),
             fixed: BTreeMap::new(),
+            desk_words: Vec::new(),
         };
         for (seen, rule) in fixed::wanted() {
             coverage.fixed.entry(seen).or_default().0.push(rule);
@@ -130,6 +139,7 @@ impl Coverage {
             self.count_temperatures(came);
         }
         self.count_switch(came);
+        self.count_signatures(came);
         let seen = (call, input.to_vec(), line.to_string());
         if let Some((_, count)) = self.fixed.get_mut(&seen) {
             *count += 1;
@@ -210,6 +220,7 @@ impl Coverage {
         self.print_tables(out)?;
         self.print_misread(out)?;
         self.print_switch(out)?;
+        self.print_signatures(out)?;
         let fixed = self.fixed.values();
         let wanted: usize = fixed.clone().map(|(rules, _)| rules.len()).sum();
         let came: usize = fixed.map(|(rules, count)| rules.len().min(*count)).sum();
@@ -314,6 +325,13 @@ impl Coverage {
     }
 }
 
+/// The name of the calls that have this letter.
+fn name_of(letter: char) -> &'static str {
+    let mut calls = OF_FRAMES.into_iter().chain(OTHERS);
+    let call = calls.find(|&(call, _, _)| call == letter);
+    call.map_or("", |(_, name, _)| name)
+}
+
 fn print_row(
     out: &mut impl Write,
     name: &str,
@@ -361,6 +379,7 @@ fn wanted() -> Vec<(Thing, String)> {
     wanted.extend(wanted_of_sums());
     wanted.extend(temperatures::wanted());
     wanted.extend(sealed::wanted());
+    wanted.extend(signatures::wanted());
     wanted
 }
 

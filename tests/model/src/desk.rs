@@ -16,18 +16,36 @@ pub fn lines(input: &[u8]) -> Vec<String> {
     if input.len() > INPUT_MAX {
         return vec!["too long".to_string()];
     }
-    let mut image = [0; IMAGE_BYTES];
-    let mut output = [0; 269];
-    block::fresh(&mut image, ADDRESS).expect("the length and the address are right");
-    pieces(input)
-        .map(|piece| line(&mut image, piece, &mut output))
-        .collect()
+    let mut desk = Desk::new();
+    pieces(input).map(|piece| desk.step(piece)).collect()
 }
 
-/// The desk is always unsealed (document 02, wish 11).
-fn line(image: &mut [u8], piece: &[u8], output: &mut [u8]) -> String {
-    match block::serve(Switch::Unsealed, image, piece, output) {
-        Ok(length) => format!("0 {}", String::from_utf8_lossy(&output[..length - 2])),
-        Err(refusal) => refusal.number().to_string(),
+/// The image, fresh before the first piece, and the output.
+pub struct Desk {
+    image: [u8; IMAGE_BYTES],
+    output: [u8; 269],
+}
+
+impl Desk {
+    pub fn new() -> Self {
+        let mut image = [0; IMAGE_BYTES];
+        block::fresh(&mut image, ADDRESS).expect("the length and the address are right");
+        Desk {
+            image,
+            output: [0; 269],
+        }
+    }
+
+    pub fn image(&self) -> &[u8] {
+        &self.image
+    }
+
+    /// Serves a piece and gives its line. The desk is always unsealed (document
+    /// 02, wish 11).
+    pub fn step(&mut self, piece: &[u8]) -> String {
+        match block::serve(Switch::Unsealed, &mut self.image, piece, &mut self.output) {
+            Ok(length) => format!("0 {}", String::from_utf8_lossy(&self.output[..length - 2])),
+            Err(refusal) => refusal.number().to_string(),
+        }
     }
 }

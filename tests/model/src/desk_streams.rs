@@ -4,14 +4,16 @@
 
 use crate::desk::INPUT_MAX;
 use crate::fixed;
+use crate::items::ITEMS;
 use crate::streams::{
-    any_errors, ask, clock, constants, either_case, errors, frame, in_either_case, limit_errors,
-    part, piece, session, with_other_sums, Rng, CLOCK, COMMANDS, PARTS, TABLES,
+    any_errors, ask, clock, constants, either_case, errors, faulty_data, frame, good_data,
+    in_either_case, limit_errors, more_and_less, part, piece, session, with_other_sums, Rng, CLOCK,
+    COMMANDS, PARTS, TABLES,
 };
 
 type Case = (&'static str, fn(&mut Rng) -> Vec<u8>);
 
-const CASES: [Case; 38] = [
+const CASES: [Case; 40] = [
     ("rows of the paper", paper_rows),
     ("empty", |_| Vec::new()),
     ("65,536 bytes", |rng| filled(rng, INPUT_MAX)),
@@ -62,6 +64,8 @@ const CASES: [Case; 38] = [
     ("ends", ends),
     ("letters in either case", letters),
     ("other checksums", other_checksums),
+    ("signatures", signatures),
+    ("signatures of full tables", full_tables),
 ];
 
 /// How many streams have a purpose of their own.
@@ -470,6 +474,52 @@ fn other_checksums(rng: &mut Rng) -> Vec<u8> {
     let mut stream = Vec::new();
     for command in COMMANDS.repeat(10) {
         stream.extend(with_other_sums(rng, 1, command).concat());
+    }
+    stream
+}
+
+/// Wish 7: each item is written, written over and written again as it is, and
+/// asked behind each; then writes that leave every word. The longest draw stays
+/// below 65,536 bytes.
+fn signatures(rng: &mut Rng) -> Vec<u8> {
+    let mut stream = Vec::new();
+    for item in &ITEMS {
+        let [write, _, sign] = item.commands;
+        let [more, less] = more_and_less(rng, item);
+        for data in [&more, &less, &less, &more] {
+            stream.extend(ask(1, write, data));
+            stream.extend(ask(1, sign, &[item.number]));
+        }
+    }
+    for command in [51, 76, 77] {
+        stream.extend(ask(1, command, &good_data(rng, command)));
+        stream.extend(ask(1, 61, &[1]));
+    }
+    for (write, sign) in [(53, 55), (59, 61), (62, 64)].repeat(5) {
+        for data in faulty_data(rng, write) {
+            stream.extend(ask(1, write, &data));
+            stream.extend(ask(1, sign, &data[..1]));
+        }
+    }
+    stream
+}
+
+/// Wish 7: tables whose full sum is several times 65,536, with parts written
+/// over so that the word goes past either end.
+fn full_tables(rng: &mut Rng) -> Vec<u8> {
+    let mut stream = Vec::new();
+    for table in [rng.between(1, 8), rng.between(11, 18)] {
+        let first = (1..=11).collect::<Vec<u8>>();
+        let again = (0..90).map(|_| rng.between(1, 11)).collect();
+        for number in [first, again].concat() {
+            let rows = match rng.below(3) {
+                0 => vec![0; 128],
+                1 => vec![255; 128],
+                _ => rng.bytes(128),
+            };
+            stream.extend(ask(1, 59, &[vec![table, number], rows].concat()));
+            stream.extend(ask(1, 61, &[table]));
+        }
     }
     stream
 }

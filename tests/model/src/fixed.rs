@@ -5,12 +5,14 @@
 
 mod checksum;
 mod sealed;
+mod signatures;
 mod small_letters;
 pub mod temperatures;
 
 use std::sync::LazyLock;
 
 use crate::block::IMAGE_BYTES;
+use crate::items;
 use crate::probe::{digest, IMAGE_ROOM, OUTPUT_ROOM};
 use crate::streams::{ask, COMMANDS};
 
@@ -28,9 +30,13 @@ pub struct Step {
     pub letter: char,
     /// What it is given: a frame, contents, an address or a table's number.
     pub input: Vec<u8>,
+    /// Bytes changed behind the block's back right before it, and where.
+    pub changed: Vec<(usize, Vec<u8>)>,
     number: u8,
     wrote: Vec<u8>,
     stored: Vec<(usize, Vec<u8>)>,
+    /// Of the held-parts question: how many, and the lowest missing one.
+    held: [u8; 2],
 }
 
 impl Step {
@@ -39,10 +45,18 @@ impl Step {
             rule,
             letter,
             input: input.to_vec(),
+            changed: Vec::new(),
             number: 0,
             wrote: Vec::new(),
             stored: Vec::new(),
+            held: [0, 0],
         }
+    }
+
+    /// What was changed behind the block's back right before it, and where.
+    fn after_change(mut self, offset: usize, bytes: &[u8]) -> Self {
+        self.changed.push((offset, bytes.to_vec()));
+        self
     }
 
     fn refused(mut self, number: u8) -> Self {
@@ -66,6 +80,30 @@ impl Step {
         self.stored.push((offset, bytes.to_vec()));
         self
     }
+
+    /// Leaves the sum of these bytes as the word of the item that a command
+    /// names by this number. That is for items which then hold zeros beside
+    /// them and whose word was true: then it stays true (document 02, wish 7).
+    fn signs(self, command: u8, number: u8, bytes: &[u8]) -> Self {
+        self.stores(word_of(command, number), &true_word(bytes))
+    }
+
+    /// How many parts are held, and the lowest missing one.
+    fn holds(mut self, parts: u8, missing: u8) -> Self {
+        self.held = [parts, missing];
+        self
+    }
+}
+
+/// The word of an item that holds these bytes and zeros alone, if it is true.
+fn true_word(bytes: &[u8]) -> [u8; 2] {
+    (items::sum(bytes) as u16).to_be_bytes()
+}
+
+/// Where the word of an item lies, by a command and the number it names it by.
+fn word_of(command: u8, number: u8) -> usize {
+    let item = items::item(command, number);
+    item.expect("the command can name it").word
 }
 
 /// Steps taken in turn on one image, fresh before the first.
@@ -122,7 +160,10 @@ impl Session {
             && self.address == 1
             && self.image_length == IMAGE_BYTES
             && self.output == SERVE_ROOM
-            && self.steps.iter().all(|step| step.letter == 'S');
+            && self
+                .steps
+                .iter()
+                .all(|step| step.letter == 'S' && step.changed.is_empty());
         runs.then(|| {
             self.steps
                 .iter()
@@ -145,29 +186,30 @@ impl Session {
     /// The probe's line for each step, from what is written here alone.
     pub fn probe_lines(&self) -> Vec<String> {
         let mut image = [0; IMAGE_ROOM];
-        image[..5].copy_from_slice(b"IZK\x00\x01");
+        image[..5].copy_from_slice(b"IZK\x00\x02");
         image[5] = self.address;
         for &(offset, value) in &self.changed {
             image[offset] = value;
         }
-        // Taken anew only when a step stores something, for it takes long.
+        // Taken anew only when a byte may have changed, for it takes long.
         let mut image_digest = digest(&image[..self.image_length]);
         let mut lines = Vec::new();
         for step in &self.steps {
-            for (offset, bytes) in &step.stored {
+            for (offset, bytes) in step.changed.iter().chain(&step.stored) {
                 image[*offset..offset + bytes.len()].copy_from_slice(bytes);
             }
-            if !step.stored.is_empty() {
+            if !step.changed.is_empty() || !step.stored.is_empty() {
                 image_digest = digest(&image[..self.image_length]);
             }
             let mut output = [FILL; OUTPUT_ROOM];
             output[..step.wrote.len()].copy_from_slice(&step.wrote);
             let (letter, number, length) = (step.letter, step.number, step.wrote.len());
+            let [parts, missing] = step.held;
             let output = digest(&output[..self.output]);
             lines.push(match letter {
                 'S' | 'K' => format!("{letter} {number} {length} {image_digest} {output}"),
                 'F' => format!("F {number} {image_digest}"),
-                'H' => format!("H {number} 0 0"),
+                'H' => format!("H {number} {parts} {missing}"),
                 _ => format!("{letter} {number} {length} {output}"),
             });
         }
@@ -222,7 +264,7 @@ fn all_sessions() -> Vec<Session> {
         Session::new("unusable image, short output, no such table", unusable())
             .spoiled(5, 0)
             .output(268),
-        Session::new("short buffer and address 0", short_buffer()).image_length(23_752),
+        Session::new("short buffer and address 0", short_buffer()).image_length(23_816),
         Session::new("address 0", vec![fresh("address 0", 0).refused(11)]),
         Session::new("one byte and too short an output", build_faults(1)).output(6),
         Session::new("133 bytes and too short an output", build_faults(133)).output(270),
@@ -240,6 +282,7 @@ fn all_sessions() -> Vec<Session> {
     sessions.extend(checksum::sessions());
     sessions.extend(temperatures::sessions());
     sessions.extend(sealed::sessions());
+    sessions.extend(signatures::sessions());
     sessions
 }
 
@@ -406,6 +449,7 @@ fn constants_taken(rule: &'static str, offset: usize, data: &[u8; 84]) -> Step {
     serve(rule, &ask(1, 53, data))
         .replies(":0135CA")
         .stores(offset, &data[1..])
+        .signs(53, data[0], &data[1..])
 }
 
 fn gas_composition() -> Vec<Step> {
@@ -459,11 +503,13 @@ fn parts() -> Vec<Step> {
         write("59 echoes table and part", 12, 3)
             .replies(":013B0C03B5")
             .stores(FIRST_TABLE + 9 * 1408 + 2 * 128, &rows)
-            .stores(35, &[0x00, 0x04]),
+            .stores(35, &[0x00, 0x04])
+            .stores(23_771, &[0x20, 0x40]),
         write("59 echoes table and part", 2, 11)
             .replies(":013B020BB7")
             .stores(FIRST_TABLE + 1408 + 10 * 128, &rows)
-            .stores(19, &[0x04, 0x00]),
+            .stores(19, &[0x04, 0x00])
+            .stores(23_755, &[0x20, 0x40]),
         write("part 0", 2, 0).refused(10),
         write("part 12", 2, 12).refused(10),
         write("table 9", 9, 1).refused(10),
@@ -487,7 +533,8 @@ fn error_rows() -> Vec<Step> {
     vec![
         write("21 rows", 21)
             .replies(":013E08B9")
-            .stores(eighth, &stored(21)),
+            .stores(eighth, &stored(21))
+            .stores(23_815, &[0x00, 0xFC]),
         write("22 rows", 22).refused(9),
         serve("22 rows that are called 21", &{
             let mut data = data(22);
@@ -500,7 +547,8 @@ fn error_rows() -> Vec<Step> {
         serve("a byte too few", &ask(1, 62, &[8, 1, 0, 0])).refused(9),
         write("1 row, and none behind it", 1)
             .replies(":013E08B9")
-            .stores(eighth, &stored(1)),
+            .stores(eighth, &stored(1))
+            .stores(23_815, &[0x00, 0x02]),
     ]
 }
 

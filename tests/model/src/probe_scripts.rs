@@ -2,14 +2,15 @@
 //! then the fixed calls, then broken records, then calls by chance.
 
 use crate::fixed::{self, Session, FILL};
+use crate::items::{self, Item, ITEMS};
 use crate::probe::SCRIPT_MAX;
 use crate::streams::{
     any_errors, ask, clock, constants, either_case, errors, faulty_data, faulty_frames, frame,
-    good_data, in_either_case, limit_errors, older_errors, part, piece, session, with_other_sums,
-    Rng, COMMANDS, TEMPERATURES, WRITING,
+    good_data, in_either_case, limit_errors, more_and_less, older_errors, part, piece, session,
+    with_other_sums, Rng, COMMANDS, TEMPERATURES, WRITING,
 };
 
-const IMAGE_BYTES: usize = 23_753;
+const IMAGE_BYTES: usize = 23_817;
 const WORDS: usize = 17;
 const CONSTANTS: usize = 49;
 const ERRORS: usize = 713;
@@ -17,7 +18,7 @@ const TABLES: usize = 1225;
 
 type Case = (&'static str, fn(&mut Rng) -> Script);
 
-const CASES: [Case; 26] = [
+const CASES: [Case; 28] = [
     ("empty", |_| Script::default()),
     ("rows at other addresses", other_addresses),
     ("fresh images", fresh_images),
@@ -44,6 +45,8 @@ const CASES: [Case; 26] = [
     ("sealed, every fault", sealed_faults),
     ("sealed, a look everywhere", sealed_looks),
     ("sealed, letters and checksums", sealed_texts),
+    ("signatures", signatures),
+    ("false signatures", false_signatures),
 ];
 
 /// How many scripts `broken` has.
@@ -67,6 +70,13 @@ impl Script {
 
     fn poke(&mut self, offset: usize, value: u8) -> &mut Self {
         self.put(b'P', offset, 3).0.push(value);
+        self
+    }
+
+    fn poke_all(&mut self, offset: usize, bytes: &[u8]) -> &mut Self {
+        for (place, &value) in bytes.iter().enumerate() {
+            self.poke(offset + place, value);
+        }
         self
     }
 
@@ -155,6 +165,9 @@ pub fn fixed_calls(session: &Session) -> Vec<u8> {
         script.poke(offset, value);
     }
     for step in &session.steps {
+        for (offset, bytes) in &step.changed {
+            script.poke_all(*offset, bytes);
+        }
         script.output(session.output, FILL);
         match step.letter {
             'F' | 'H' => script.given(step.letter as u8, &step.input),
@@ -185,11 +198,14 @@ fn other_addresses(_: &mut Rng) -> Script {
 /// All orders of a wrong length and address 0, over a buffer of old bytes.
 fn fresh_images(rng: &mut Rng) -> Script {
     let mut script = Script::default();
-    for length in [0, 1, 23_752, 23_753, 23_754, 24_000, 65_535, 0xFF_FFFF] {
+    for length in [
+        0, 1, 23_753, 23_816, 23_817, 23_818, 24_000, 65_535, 0xFF_FFFF,
+    ] {
         for address in [0, 1, 0xCE, 255] {
             for _ in 0..20 {
                 script.poke(rng.below(24_000), rng.byte());
             }
+            script.poke(items::WORDS.start + rng.below(64), rng.between(1, 255));
             script.image_length(length).fresh(address);
             script.serve(&ask(address, 50, &[])).held(1);
         }
@@ -202,7 +218,9 @@ fn fresh_images(rng: &mut Rng) -> Script {
 fn image_lengths(_: &mut Rng) -> Script {
     let mut script = Script::default();
     script.fresh(1);
-    for length in [0, 5, 6, 23_752, 23_753, 23_754, 24_000, 23_753] {
+    for length in [
+        0, 5, 6, 23_752, 23_753, 23_816, 23_817, 23_818, 24_000, 23_817,
+    ] {
         script.image_length(length);
         script.serve(&ask(1, 51, &[0x5A])).held(1);
         script.serve(&ask(1, 60, &[18, 11])).held(18);
@@ -222,7 +240,7 @@ fn spoil(script: &mut Script, offset: usize, good: u8, bad: u8) {
 fn spoiled_head(_: &mut Rng) -> Script {
     let mut script = Script::default();
     script.fresh(1);
-    for (offset, good) in [b'I', b'Z', b'K', 0, 1, 1].into_iter().enumerate() {
+    for (offset, good) in [b'I', b'Z', b'K', 0, 2, 1].into_iter().enumerate() {
         for bad in [0, 1, 2, b'i', b'I', b'Z', b'K', 128, 255] {
             spoil(&mut script, offset, good, bad);
         }
@@ -273,7 +291,7 @@ fn unjudged_bytes(rng: &mut Rng) -> Script {
 }
 
 fn poke_unjudged(script: &mut Script, rng: &mut Rng) {
-    let mut places: Vec<usize> = (6..WORDS).collect();
+    let mut places: Vec<usize> = (6..WORDS).chain(items::WORDS).collect();
     for channel in [0, 3, 7] {
         places.extend((0..83).map(|byte| CONSTANTS + 83 * channel + byte));
     }
@@ -653,6 +671,101 @@ fn sealed_texts(rng: &mut Rng) -> Script {
     script
 }
 
+/// Document 02, wish 7: each item is written, written over and written again
+/// as it is, and asked behind each, with no byte changed behind the block's
+/// back.
+fn signatures(rng: &mut Rng) -> Script {
+    let mut script = Script::default();
+    script.fresh(1);
+    for item in &ITEMS {
+        let [more, less] = more_and_less(rng, item);
+        for data in [&more, &less, &less, &more] {
+            write_and_ask(&mut script, item, data);
+        }
+    }
+    look_everywhere(&mut script, Script::serve_sealed);
+    leave_words(&mut script, rng);
+    look_everywhere(&mut script, Script::serve);
+    script.show_all();
+    script
+}
+
+/// Document 02, wish 7: the same over changed bytes, and with words that are
+/// false; the longest draw stays below 65,536 bytes.
+fn false_signatures(rng: &mut Rng) -> Script {
+    let mut script = Script::default();
+    script.fresh(1);
+    for table in 0..16 {
+        let held: u16 = rng.pick(&[0x000, 0x000, 0x3FF, 0x7FF]);
+        script.poke_all(WORDS + 2 * table, &held.to_be_bytes());
+    }
+    for item in &ITEMS {
+        poke_item(&mut script, rng, item);
+        let [more, less] = more_and_less(rng, item);
+        let any = any_word(rng);
+        // So the word goes past either end, and then there and back.
+        for (word, data) in [
+            (any, &more),
+            (0x0000, &less),
+            (0x0000, &less),
+            (0xFFFF, &more),
+            (0xFFFF, &more),
+        ] {
+            script.poke_all(item.word, &word.to_be_bytes());
+            write_and_ask(&mut script, item, data);
+        }
+    }
+    look_everywhere(&mut script, Script::serve_sealed);
+    leave_words(&mut script, rng);
+    for command in COMMANDS {
+        script.serve(&ask(1, command, &good_data(rng, command)));
+    }
+    script.fresh(0).fresh(1).show_all();
+    script
+}
+
+/// A write of an item, and then its signature, unsealed and sealed.
+fn write_and_ask(script: &mut Script, item: &Item, data: &[u8]) {
+    let [write, _, sign] = item.commands;
+    let asked = ask(1, sign, &[item.number]);
+    script.serve(&ask(1, write, data));
+    script.serve(&asked).serve_sealed(&asked);
+}
+
+/// Calls that leave every word as it is: writes of what has none, writes that
+/// are refused, and sealed ones.
+fn leave_words(script: &mut Script, rng: &mut Rng) {
+    for command in WRITING {
+        script.serve_sealed(&ask(1, command, &good_data(rng, command)));
+        for data in faulty_data(rng, command) {
+            script.serve(&ask(1, command, &data));
+        }
+    }
+    for command in [51, 76, 77] {
+        script.serve(&ask(1, command, &good_data(rng, command)));
+    }
+}
+
+/// Changes bytes of an item behind the block's back, so many that hardly a part
+/// of a table is left out; the image stays usable.
+fn poke_item(script: &mut Script, rng: &mut Rng, item: &Item) {
+    for _ in 0..8 + item.bytes / 40 {
+        match rng.below(item.bytes) {
+            // The row count of an error table.
+            0 if item.commands[0] == 62 => script.poke(item.offset, rng.between(0, 21)),
+            place => script.poke(item.offset + place, rng.byte()),
+        };
+    }
+}
+
+/// A word for an item, half of them at the ends or where a byte is full.
+fn any_word(rng: &mut Rng) -> u16 {
+    match rng.percent(50) {
+        true => rng.pick(&[0x0000, 0x0001, 0x00FF, 0x0100, 0xFF00, 0xFFFE, 0xFFFF]),
+        false => rng.below(65_536) as u16,
+    }
+}
+
 /// One call whose frame brings the script to this size.
 fn filled(size: usize) -> Script {
     let mut script = Script::default();
@@ -673,7 +786,7 @@ fn records_past_end(_: &mut Rng) -> Script {
 /// that begin no record.
 fn broken(number: usize) -> Option<Script> {
     let records: [&[u8]; 9] = [
-        b"L\x00\x5C\xC9",
+        b"L\x00\x5D\x09",
         b"P\x00\x00\x06\x01",
         b"O\x01\x0D\x01",
         b"F\x01",
@@ -697,13 +810,21 @@ fn broken(number: usize) -> Option<Script> {
     Some(script)
 }
 
-/// Sessions and other calls on an image with old bytes in it.
+/// Sessions and other calls. Of three images one is reached by calls alone, so
+/// that its words are true, one has old bytes in it from the start, and one has
+/// words and bytes changed all along.
 fn by_chance(rng: &mut Rng) -> Script {
     let mut script = Script::default();
     let address = rng.pick(&[1, 1, 0xCE, 255, 0x3A, 0x80]);
     script.fresh(address);
-    old_bytes(&mut script, rng);
+    let (old, changing) = rng.pick(&[(false, false), (true, false), (true, true)]);
+    if old {
+        old_bytes(&mut script, rng);
+    }
     for _ in 0..10 + rng.below(50) {
+        if changing && rng.percent(30) {
+            change_behind(&mut script, rng);
+        }
         match rng.below(10) {
             0 => script.output(rng.pick(&[0, 131, 132, 268, 269, 270, 400]), rng.byte()),
             1 => script.held(rng.below(22) as u32 + rng.pick(&[0, 0, 0, 256])),
@@ -743,6 +864,16 @@ fn old_bytes(script: &mut Script, rng: &mut Rng) {
     }
 }
 
+/// Changes a word or bytes of an item behind the block's back.
+fn change_behind(script: &mut Script, rng: &mut Rng) {
+    let item = &ITEMS[rng.below(32)];
+    if rng.percent(60) {
+        script.poke_all(item.word, &any_word(rng).to_be_bytes());
+    } else {
+        poke_item(script, rng, item);
+    }
+}
+
 fn serve_session<'a>(script: &'a mut Script, rng: &mut Rng, address: u8) -> &'a mut Script {
     for contents in session(rng, address) {
         let piece = piece(rng, &contents);
@@ -777,7 +908,7 @@ fn other_call<'a>(script: &'a mut Script, rng: &mut Rng) -> &'a mut Script {
 
 fn unusable_for_a_while<'a>(script: &'a mut Script, rng: &mut Rng, address: u8) -> &'a mut Script {
     match rng.below(4) {
-        0 => script.image_length(rng.pick(&[0, 23_752, 23_754, 24_000])),
+        0 => script.image_length(rng.pick(&[0, 23_753, 23_816, 23_818, 24_000])),
         1 => script.poke(rng.below(6), rng.byte()),
         2 => script.poke(WORDS + 2 * rng.below(16), rng.between(6, 9)),
         _ => script.poke(ERRORS + 64 * rng.below(8), rng.between(20, 23)),

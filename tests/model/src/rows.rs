@@ -1,5 +1,7 @@
 //! The rows and rules the block is held to, one by one.
 
+mod signatures;
+
 use crate::block::{build, fresh, held_parts, serve, take_apart, Refusal, Switch, IMAGE_BYTES};
 use crate::fixed::temperatures::RISING;
 use crate::streams::{
@@ -445,7 +447,7 @@ fn fresh_image_has_its_length_and_its_address() {
         }
     }
     let image = image_at(0xCE);
-    assert_eq!(image[..6], *b"IZK\x00\x01\xCE");
+    assert_eq!(image[..6], *b"IZK\x00\x02\xCE");
     assert!(image[6..].iter().all(|&byte| byte == 0));
 }
 
@@ -511,7 +513,7 @@ fn tables_lie_where_they_should() {
         (8, 11, 1225 + 7 * 1408 + 1280),
         (11, 1, 1225 + 8 * 1408),
         (12, 1, 1225 + 9 * 1408),
-        (18, 11, IMAGE_BYTES - 128),
+        (18, 11, 23_753 - 128),
     ] {
         let data = part(&mut rng, table, number_of_part);
         let mut image = image_at(1);

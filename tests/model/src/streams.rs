@@ -7,6 +7,8 @@
 //! the same reason temperatures are put in order by their place in the rise,
 //! and not by the number that their byte stands for.
 
+use crate::items::{sum, Item};
+
 /// The commands served, in rising order.
 pub const COMMANDS: [u8; 14] = [50, 51, 53, 54, 55, 59, 60, 61, 62, 63, 64, 76, 77, 78];
 
@@ -106,8 +108,7 @@ pub fn spelled(body: &[u8]) -> Vec<u8> {
 }
 
 fn checksum(contents: &[u8]) -> u8 {
-    let sum: u32 = contents.iter().map(|&byte| u32::from(byte)).sum();
-    ((256 - sum % 256) % 256) as u8
+    ((256 - sum(contents) % 256) % 256) as u8
 }
 
 /// What the checksum would be if each carry were added in again at the low
@@ -261,6 +262,27 @@ pub fn any_errors(rng: &mut Rng, number: u8) -> Vec<u8> {
         true => errors(rng, number, count),
         false => unsettled_errors(rng, number, count),
     }
+}
+
+/// Data of a good write of an item, of a table this part.
+fn item_data(rng: &mut Rng, item: &Item, part_number: u8) -> Vec<u8> {
+    match item.commands[0] {
+        53 => constants(rng, item.number),
+        62 => {
+            let count = row_count(rng);
+            errors(rng, item.number, count)
+        }
+        _ => part(rng, item.number, part_number),
+    }
+}
+
+/// Data of two good writes of one cell of an item. The first has more in its
+/// bytes than the second, or as much.
+pub fn more_and_less(rng: &mut Rng, item: &Item) -> [Vec<u8>; 2] {
+    let part_number = rng.between(1, 11);
+    let mut both = [(); 2].map(|()| item_data(rng, item, part_number));
+    both.sort_by_key(|data| std::cmp::Reverse(sum(data)));
+    both
 }
 
 /// How many rows an error table has: as often few or the most as any number.

@@ -100,8 +100,11 @@ fn mask(rule: &'static str, body: [u8; 4]) -> Row {
 
 /// Command 62 with a right checksum and one row for error table 1.
 fn errors(rule: &'static str, body: [u8; 8]) -> Row {
-    let step = serve(rule, &spelled(&body)).replies(":013E01C0");
-    (step.stores(FIRST_ERRORS, &body[3..7]), body.to_vec())
+    let step = serve(rule, &spelled(&body))
+        .replies(":013E01C0")
+        .stores(FIRST_ERRORS, &body[3..7])
+        .signs(62, 1, &body[3..7]);
+    (step, body.to_vec())
 }
 
 /// Command 59 for part 11 of table 12. Its bytes before the rows add up to
@@ -116,7 +119,8 @@ fn part(rule: &'static str, rows: &[u8; 128], checksum: u8) -> Row {
     let step = serve(rule, &spelled(&body))
         .replies(":013B0C0BAD")
         .stores(FIRST_TABLE + 9 * 1408 + 10 * 128, rows)
-        .stores(35, &[0x04, 0x00]);
+        .stores(35, &[0x04, 0x00])
+        .signs(59, 12, rows);
     (step, body)
 }
 

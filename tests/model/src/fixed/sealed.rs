@@ -14,9 +14,14 @@ const MASK: usize = 6;
 const MODE: usize = 7;
 const CLOCK: usize = 8;
 const LAST_CONSTANTS: usize = 49 + 7 * 83;
-/// Table 12, the second of the additional ones, and its word.
+/// Table 12, the second of the additional ones, and the word of its parts.
 const TABLE_12: usize = FIRST_TABLE + 9 * 1408;
 const WORD_12: usize = 35;
+/// The signatures of the items that are written here.
+const SIGNATURE_12: usize = 23_771;
+const LAST_CONSTANTS_SIGNATURE: usize = 23_799;
+const FIRST_ERRORS_SIGNATURE: usize = 23_801;
+const LAST_ERRORS_SIGNATURE: usize = 23_815;
 
 pub fn sessions() -> Vec<Session> {
     vec![
@@ -36,7 +41,7 @@ pub fn sessions() -> Vec<Session> {
         Session::new("sealed, row count 22, short output", all_refused(1))
             .spoiled(FIRST_ERRORS + 7 * 64, 22)
             .output(268),
-        Session::new("sealed, short image", all_refused(1)).image_length(23_752),
+        Session::new("sealed, short image", all_refused(1)).image_length(23_816),
         Session::new("sealed, short output", all_refused(2)).output(268),
         Session::new("sealed, no output", all_refused(2)).output(0),
         stored_by_writes(),
@@ -77,6 +82,11 @@ impl Write {
             stored: vec![(offset, bytes.to_vec())],
         }
     }
+
+    fn stores(mut self, offset: usize, bytes: &[u8]) -> Self {
+        self.stored.push((offset, bytes.to_vec()));
+        self
+    }
 }
 
 /// One for each of the six commands.
@@ -85,18 +95,20 @@ fn writes() -> [Write; 6] {
     let constants_text = format!(":013507ABCDEF0D{}AFA0", "00".repeat(78));
     let part_text = format!(":013B0C0B{}2D", "AB".repeat(128));
     let part_offset = TABLE_12 + 10 * 128;
-    let mut part = Write::new(&part_text, ":013B0C0BAD", part_offset, &[0xAB; 128]);
-    part.stored.push((WORD_12, vec![0x04, 0x00]));
     [
         Write::new(":01330FBD", ":01330FBD", MASK, &[0x0F]),
-        Write::new(&constants_text, ":0135CA", LAST_CONSTANTS, &constants),
-        part,
+        Write::new(&constants_text, ":0135CA", LAST_CONSTANTS, &constants)
+            .stores(LAST_CONSTANTS_SIGNATURE, &[0x03, 0x23]),
+        Write::new(&part_text, ":013B0C0BAD", part_offset, &[0xAB; 128])
+            .stores(WORD_12, &[0x04, 0x00])
+            .stores(SIGNATURE_12, &[0x55, 0x80]),
         Write::new(
             ":013E0101140005A6",
             ":013E01C0",
             FIRST_ERRORS,
             &[0x01, 0x14, 0x00, 0x05],
-        ),
+        )
+        .stores(FIRST_ERRORS_SIGNATURE, &[0x00, 0x1A]),
         Write::new(":014CFFB4", ":014CFFB4", MODE, &[0xFF]),
         Write::new(
             ":014D3B3B17071F0C63000090",
@@ -558,7 +570,7 @@ fn stored_by_writes() -> Session {
     session
 }
 
-/// Bytes that no write could leave there.
+/// Bytes that no write could leave there, with their true signatures.
 fn stored_by_none() -> Session {
     let rows = [
         (":0132CD", ":0132EEDF".to_string()),
@@ -585,9 +597,12 @@ fn stored_by_none() -> Session {
     Session::new("sealed, stored by none", steps)
         .holding(MASK, &[0xEE; 11]) // mask, mode and clock
         .holding(LAST_CONSTANTS, &[0xFF; 83])
+        .holding(LAST_CONSTANTS_SIGNATURE, &[0x52, 0xAD])
         .holding(TABLE_12, &[0xFF; 1408])
+        .holding(SIGNATURE_12, &[0x7A, 0x80])
         .holding(FIRST_ERRORS + 7 * 64, &[21])
         .holding(FIRST_ERRORS + 7 * 64 + 1, &[0xFF; 63])
+        .holding(LAST_ERRORS_SIGNATURE, &[0x3E, 0xD6])
 }
 
 /// There the checksum of a sealed 50 is 0, and sums are above 256.

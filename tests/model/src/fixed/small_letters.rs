@@ -105,7 +105,8 @@ fn errors() -> Vec<Row> {
         (
             line("P10 in small letters", ":013e0101140005a6")
                 .replies(":013E01C0")
-                .stores(FIRST_ERRORS, &[0x01, 0x14, 0x00, 0x05]),
+                .stores(FIRST_ERRORS, &[0x01, 0x14, 0x00, 0x05])
+                .stores(23_801, &[0x00, 0x1A]),
             vec![0x01, 0x3E, 0x01, 0x01, 0x14, 0x00, 0x05],
         ),
         (
@@ -119,7 +120,8 @@ fn errors() -> Vec<Row> {
         (
             line("62, FF then 00", ":013e0202fF000a000bCddC")
                 .replies(":013E02BF")
-                .stores(FIRST_ERRORS + 64, &rows),
+                .stores(FIRST_ERRORS + 64, &rows)
+                .stores(23_803, &[0x01, 0xE3]),
             [&[0x01, 0x3E, 0x02], &rows[..]].concat(),
         ),
         (
@@ -138,7 +140,8 @@ fn constants() -> Vec<Row> {
         (
             line("53, gas 13", &format!(":013507abCDeF0d{zeros}aFa0"))
                 .replies(":0135CA")
-                .stores(FIRST_CONSTANTS + 7 * 83, &stored),
+                .stores(FIRST_CONSTANTS + 7 * 83, &stored)
+                .stores(23_799, &[0x03, 0x23]),
             [&[0x01, 0x35, 0x07], &stored[..]].concat(),
         ),
         (
@@ -162,14 +165,16 @@ fn table() -> Vec<Row> {
             line("59, all small", &format!(":013b0c0b{}2d", part("ab")))
                 .replies(":013B0C0BAD")
                 .stores(twelfth + 10 * 128, &[0xAB; 128])
-                .stores(35, &[0x04, 0x00]),
+                .stores(35, &[0x04, 0x00])
+                .stores(23_771, &[0x55, 0x80]),
             [&[0x01, 0x3B, 0x0C, 0x0B], &[0xAB; 128][..]].concat(),
         ),
         (
             line("59, both cases", &format!(":013B0C0a{}aE", part("fE")))
                 .replies(":013B0C0AAE")
                 .stores(twelfth + 9 * 128, &[0xFE; 128])
-                .stores(35, &[0x06, 0x00]),
+                .stores(35, &[0x06, 0x00])
+                .stores(23_771, &[0xD4, 0x80]),
             [&[0x01, 0x3B, 0x0C, 0x0A], &[0xFE; 128][..]].concat(),
         ),
         (

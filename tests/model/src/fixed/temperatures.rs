@@ -5,7 +5,8 @@
 //! frame, it follows from the places of the bytes in `RISING`.
 
 use super::{
-    constants_taken, serve, take_apart, zero_constants, Session, Step, FIRST_ERRORS, FIRST_TABLE,
+    constants_taken, serve, take_apart, true_word, word_of, zero_constants, Session, Step,
+    FIRST_ERRORS, FIRST_TABLE,
 };
 use crate::streams::ask;
 
@@ -112,6 +113,7 @@ fn taken(rule: &'static str, number: u8, table: &[u8]) -> Step {
     write(rule, number, table)
         .replies(TAKEN[index])
         .stores(FIRST_ERRORS + 64 * index, &stored)
+        .signs(62, number, &stored)
 }
 
 fn refused(rule: &'static str, number: u8, table: &[u8]) -> Step {
@@ -120,8 +122,7 @@ fn refused(rule: &'static str, number: u8, table: &[u8]) -> Step {
 
 /// What 63 and 64 answer if nothing but this is stored of a table.
 fn shown(rule: &'static str, number: u8, table: &[u8]) -> [Step; 2] {
-    let sum: u16 = table.iter().map(|&byte| u16::from(byte)).sum();
-    let [high, low] = sum.to_be_bytes();
+    let [high, low] = true_word(table);
     [
         serve(rule, &ask(1, 63, &[number])).writes(&ask(1, 63, &[&[number], table].concat())),
         serve(rule, &ask(1, 64, &[number])).writes(&ask(1, 64, &[number, high, low])),
@@ -135,7 +136,7 @@ fn papers_rows() -> Vec<Step> {
     let refused = |rule, text| line(rule, text).refused(11);
     let taken = |rule, text, stored: &[u8]| {
         let step = line(rule, text).replies(":013E01C0");
-        step.stores(FIRST_ERRORS, stored)
+        step.stores(FIRST_ERRORS, stored).signs(62, 1, stored)
     };
     let two = |first, second| [2, first, 0x00, 0x05, second, 0xFF, 0xFF];
     vec![
@@ -169,7 +170,8 @@ fn as_sent() -> Vec<Step> {
     vec![
         serve("7F then 80", b":013E01027F000580FFFFBC\r\n")
             .replies(":013E01C0")
-            .stores(FIRST_ERRORS, &[2, 0x7F, 0x00, 0x05, 0x80, 0xFF, 0xFF]),
+            .stores(FIRST_ERRORS, &[2, 0x7F, 0x00, 0x05, 0x80, 0xFF, 0xFF])
+            .stores(23_801, &[0x03, 0x04]),
         read(":013F01027F000580FFFFBB"),
         sign(":0140010304B7"),
         serve("80 then 81", b":013E010280000581FFFFBA\r\n").refused(11),
@@ -177,7 +179,8 @@ fn as_sent() -> Vec<Step> {
         sign(":0140010304B7"),
         serve("81 then 80", b":013E010281ABCD801234FF\r\n")
             .replies(":013E01C0")
-            .stores(FIRST_ERRORS, &[2, 0x81, 0xAB, 0xCD, 0x80, 0x12, 0x34]),
+            .stores(FIRST_ERRORS, &[2, 0x81, 0xAB, 0xCD, 0x80, 0x12, 0x34])
+            .stores(23_801, &[0x02, 0xC1]),
         read(":013F010281ABCD801234FE"),
         sign(":01400102C1FB"),
         serve("80 then 7F", b":013E01028000057FFFFFBC\r\n").refused(11),
@@ -185,7 +188,8 @@ fn as_sent() -> Vec<Step> {
         sign(":01400102C1FB"),
         serve("80 alone", b":013E01018000053A\r\n")
             .replies(":013E01C0")
-            .stores(FIRST_ERRORS, &[1, 0x80, 0x00, 0x05, 0x00, 0x00, 0x00]),
+            .stores(FIRST_ERRORS, &[1, 0x80, 0x00, 0x05, 0x00, 0x00, 0x00])
+            .stores(23_801, &[0x00, 0x86]),
         read(":013F010180000539"),
         sign(":014001008638"),
         serve("80 then 80", b":013E010280000580FFFFBB\r\n").refused(11),
@@ -419,7 +423,8 @@ fn parts_and_constants() -> Vec<Step> {
         serve("a part", &ask(1, 59, &sent))
             .replies(":013B0101C2")
             .stores(FIRST_TABLE, &rows)
-            .stores(17, &[0x00, 0x01]),
+            .stores(17, &[0x00, 0x01])
+            .stores(23_753, &[0x40, 0x40]),
         serve("a part", &ask(1, 60, &[1, 1])).writes(&ask(1, 60, &sent)),
         // 64 times 101h.
         serve("a part", b":013D01C1\r\n").replies(":013D01404041"),
@@ -468,7 +473,8 @@ fn at_80() -> Vec<Step> {
     vec![
         serve("7F then 80", b":803E01027F000580FFFF3D\r\n")
             .replies(":803E0141")
-            .stores(FIRST_ERRORS, &[2, 0x7F, 0x00, 0x05, 0x80, 0xFF, 0xFF]),
+            .stores(FIRST_ERRORS, &[2, 0x7F, 0x00, 0x05, 0x80, 0xFF, 0xFF])
+            .stores(23_801, &[0x03, 0x04]),
         serve("80 then 81", b":803E010280000581FFFF3B\r\n").refused(11),
         serve("63 as sent", b":803F0140\r\n").replies(":803F01027F000580FFFF3C"),
         serve("64 plain sum", b":8040013F\r\n").replies(":804001030438"),
@@ -480,7 +486,8 @@ fn at_81() -> Vec<Step> {
     vec![
         serve("7F then 80", b":813E01027F000580FFFF3C\r\n")
             .replies(":813E0140")
-            .stores(FIRST_ERRORS, &[2, 0x7F, 0x00, 0x05, 0x80, 0xFF, 0xFF]),
+            .stores(FIRST_ERRORS, &[2, 0x7F, 0x00, 0x05, 0x80, 0xFF, 0xFF])
+            .stores(23_801, &[0x03, 0x04]),
         serve("80 then 81", b":813E010280000581FFFF3A\r\n").refused(11),
         serve("63 as sent", b":813F013F\r\n").replies(":813F01027F000580FFFF3B"),
         serve("64 plain sum", b":8140013E\r\n").replies(":814001030437"),
@@ -488,8 +495,8 @@ fn at_81() -> Vec<Step> {
     ]
 }
 
-/// Error tables that no command 62 leaves any more, or never did. They are
-/// read as they stand; the rule is for what is written.
+/// Error tables that no command 62 leaves any more, or never did, each with its
+/// true word. They are read as they stand; the rule is for what is written.
 fn older_tables() -> Session {
     let older = [
         table(&[(0x80, 1), (0x81, 2), (0xFF, 3), (0x00, 4), (0x7F, 5)]),
@@ -512,9 +519,13 @@ fn older_tables() -> Session {
     let eighth = FIRST_ERRORS + 64 * 7;
     let mut session = Session::new("temperatures, older tables", steps)
         .holding(seventh, &[1, 0x80, 0x00, 0x01])
-        .holding(eighth, &[1, 0x80, 0x00, 0x01, 0x81, 0x00, 0x02]);
-    for (place, table) in older.iter().enumerate() {
-        session = session.holding(FIRST_ERRORS + 64 * place, table);
+        .holding(23_813, &[0x00, 0x82])
+        .holding(eighth, &[1, 0x80, 0x00, 0x01, 0x81, 0x00, 0x02])
+        .holding(23_815, &[0x01, 0x05]);
+    for (number, table) in (1..).zip(&older) {
+        session = session
+            .holding(FIRST_ERRORS + 64 * usize::from(number - 1), table)
+            .holding(word_of(62, number), &true_word(table));
     }
     session
 }
