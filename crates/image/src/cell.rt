@@ -1,6 +1,7 @@
 // The cells of the image: where each stands, how long it is, and how a request's numbers name one.
 ghost use mathlib.Core.Path.{_≡_};
 ghost use mathlib.Core.Bool.{cond};
+ghost use Prim.Native.Nat.{_+_, _*_, _≤_};
 ghost use Rattle.image.specs.Cell.{offset, size, constantsNamed, errorsNamed, isTable, tableIndex, tableNamed, partNamed};
 ghost use Rattle.image.specs.Words.{signatureWord};
 
@@ -166,20 +167,20 @@ impl Cell {
             Cell::Mask => Signed::Nowhere,
             Cell::Mode => Signed::Nowhere,
             Cell::Clock => Signed::Nowhere,
-            Cell::Constants(c) => Signed::At(
-                Cell::CONSTANTS_SIGNATURES_OFFSET + Cell::WORD_SIZE * (c as usize),
-            ),
-            Cell::Errors(e) => {
-                Signed::At(Cell::ERRORS_SIGNATURES_OFFSET + Cell::WORD_SIZE * (e as usize))
-            }
-            Cell::Part(k, _) => {
-                Signed::At(Cell::TABLE_SIGNATURES_OFFSET + Cell::WORD_SIZE * (k as usize))
-            }
-            Cell::Table(k) => {
-                Signed::At(Cell::TABLE_SIGNATURES_OFFSET + Cell::WORD_SIZE * (k as usize))
-            }
+            Cell::Constants(c) => kept_at(Cell::CONSTANTS_SIGNATURES_OFFSET, c),
+            Cell::Errors(e) => kept_at(Cell::ERRORS_SIGNATURES_OFFSET, e),
+            Cell::Part(k, _) => kept_at(Cell::TABLE_SIGNATURES_OFFSET, k),
+            Cell::Table(k) => kept_at(Cell::TABLE_SIGNATURES_OFFSET, k),
         }
     }
+}
+
+// The k-th word of those that begin at an offset.
+fn kept_at(first: usize, k: u8) -> Signed
+    requires { ⌜ first ≤ 65536 ⌝ }
+    ensures { λ r. ⌜ r ≡ Signed.At (first + 2 * k) ⌝ }
+{
+    Signed::At(first + Cell::WORD_SIZE * (k as usize))
 }
 
 // Where a table stands among the sixteen, from 0; 16 for a number that no table has, however large.

@@ -1,5 +1,6 @@
 -- What serving a frame changes, for every version of the image and every lawful hearing: a refusal nothing, a show or a signature nothing in
--- the image, a write its own cell. Which of these it is rests, for one hearing, on the frame and the image's address. Assumes nothing.
+-- the image, a write its own cell with the words that change along. Which of these it is rests, for one hearing, on the frame and the image's address.
+-- Assumes nothing.
 use mathlib.Core.Path.{_≡_, refl, sym, _∙_}
 use mathlib.Core.Logic.{_≢_, _⊎_, inl, inr}
 use mathlib.Core.List.{List}
@@ -45,7 +46,7 @@ unfolding answered
 acceptance-by-address ear v f m m′ out out′ u u′ a r r′ =
     rw (served-is ear v f m out u r, served-is ear v f m′ out′ u′ r′, a) (number-alone v (ear (address m′) f) (contentsOf f) m m′)
 
--- ---- an accepted write changes its cell and nothing else
+-- ---- an accepted write changes its cell, the words that change along, and nothing else
 
 -- d is one of the 195; every byte that is not its own nor of a word that changes along with it is as it was, and so is every bit of the tables'
 -- words but its own

@@ -14,8 +14,8 @@ ghost use Rattle.command.specs.Reply.{Serves};
 ghost use Rattle.izk.specs.Heard.{heard};
 ghost use Rattle.izk.specs.Block.{served};
 
-// Serves a frame: the reply stands at the start of the output, and a write changes its cell of the image. Sealed, no frame changes the image. Refuses
-// 1 to 8, then 16, then 9 to 11.
+// Serves a frame: the reply stands at the start of the output, and a write changes its cell of the image, with the bit and the signature that go along.
+// Sealed, no frame changes the image. Refuses 1 to 8, then 16, then 9 to 11.
 pub fn serve(frame: &[u8], switch: Switch, m: &mut [u8], out: &mut [u8]) -> Answer
     ensures { λ r. ⌜ Serves (served (heard switch) current (now (frame .entry)) (now (m .entry)) (now (out .entry)))
         r (now (m .exit)) (now (out .exit)) ⌝ }
