@@ -24,7 +24,8 @@ leaves v Show d c m = m
 leaves v Sign d c m = m
 leaves v (Store k) d c m = stored v d (drop k c) m
 
--- the cells that it reads, and those that it writes
+-- the cells that it reads, and those that it writes. A signature counts as reading all cells of its item, also where the image keeps it (document 02,
+-- request 7)
 abbrev pub reads : Act → Cell → List Cell
 reads Show d = cellsOf d
 reads Sign d = cellsOf d

@@ -10,10 +10,10 @@ use lib.ListN.{length, getD, drop, set, drop-of-length-le}
 use lib.Pow.{pow-pos}
 use borrow.Author.Tests.{eq-eqb, ne-eqb}
 use borrow.Author.Fill.{fill-more}
-use Rattle.laws.specs.Bytes.{zeros, wordAt}
+use Rattle.laws.specs.Bytes.{slice, zeros, wordAt}
 use Rattle.laws.specs.Checks.{judged}
 use Rattle.laws.specs.Bits.{bit, onesIn}
-use Rattle.laws.proofs.Bytes.{length-zeros, length-lay, lay-at, lay-out, lay-is, zeros-at}
+use Rattle.laws.proofs.Bytes.{length-zeros, length-lay, lay-at, lay-out, lay-is, slice-lay, zeros-at}
 use Rattle.image.specs.declared.cell.Cell.the-variants.{Errors}
 use Rattle.image.specs.Version.{Version, v1, v2, current, versionNumber, imageLength}
 use Rattle.image.specs.Cell.{isTable, tableIndex, offset}
@@ -66,6 +66,10 @@ module _ (v : Version) (a : ℕ) where
   unfolding fresh
   rest-at i h = lay-out (zeros (imageLength v)) 0 (head v a) i (λ p. let z : ⊥ = omega arith in z) ∙ zeros-at (imageLength v) i
 
+  begins : slice 0 6 (fresh v a) ≡ head v a
+  unfolding fresh
+  begins = slice-lay (zeros (imageLength v)) 0 6 (head v a) (omega arith) (omega (arith, length-zeros (imageLength v), head-inside v))
+
   word-none : (k : ℕ) → tableWord (fresh v a) k ≡ 0
   unfolding tableWord wordAt
   word-none k = rw (rest-at (wordOffset k) (omega arith), rest-at (wordOffset k + 1) (omega arith))
@@ -97,3 +101,8 @@ module _ (v : Version) (a : ℕ) where
     pub fresh-holds-none : (t : ℕ) → isTable t ≡ true → heldParts v (fresh v a) t ≡ record { number = 0; parts = 0; missing = 1 }
     unfolding heldParts judged heldOf onesIn lowestMissing missingFrom
     fresh-holds-none t h = rw (fresh-usable, h, word-none (tableIndex t))
+
+-- the letters IZK, version 1 or 2 in two bytes, and the address
+pub fresh-begins : (a : ℕ) → (slice 0 6 (fresh v1 a) ≡ 73 ∷ (90 ∷ (75 ∷ (0 ∷ (1 ∷ (a ∷ []))))))
+    × (slice 0 6 (fresh v2 a) ≡ 73 ∷ (90 ∷ (75 ∷ (0 ∷ (2 ∷ (a ∷ []))))))
+fresh-begins a = (begins v1 a, begins v2 a)

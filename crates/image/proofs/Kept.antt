@@ -1,14 +1,16 @@
 -- Which of the 32 signatures a cell's bytes count in, and what an item holds. Assumes nothing.
-use mathlib.Core.Path.{_≡_, refl, sym, ap}
+use mathlib.Core.Path.{_≡_, refl}
 use mathlib.Core.Logic.{_⊎_, inl, inr}
-use mathlib.Core.List.{List, [], _∷_, map, List·Memᴰ, List·Memᴰ·head, List·Memᴰ·cases-cons, List·Memᴰ·not-nil, List·Memᴰ·eq-of-singleton}
+use mathlib.Core.List.{List, [], _∷_, _++_, map, List·Memᴰ, List·Memᴰ·head, List·Memᴰ·cases-cons, List·Memᴰ·not-nil, List·Memᴰ·eq-of-singleton}
+use mathlib.Core.List.{Memᴰ·append-left, Memᴰ·append-right}
 use mathlib.Core.Bool.{true, cond}
-use Prim.Native.Nat.{ℕ, zero, suc, _+_, _-_, _*_, _≤_, _<_}
+use Prim.Native.Nat.{ℕ, zero, suc, _+_, _-_, _≤_, _<_}
 use native.Mathlib.Omega.{arith}
 use lib.ListN.{length}
 use lib.Dec.{ltb}
 use borrow.Author.Tests.{ltb-true, lt-ltb, le-ltb}
-use Rattle.laws.proofs.Tests.{never}
+use Rattle.laws.specs.Checks.{all}
+use Rattle.laws.proofs.Tests.{never, all-of}
 use Rattle.laws.proofs.Bytes.{In}
 use Rattle.image.specs.declared.cell.Cell.{Cell}
 use Rattle.image.specs.declared.cell.Cell.the-variants.{Mask, Mode, Clock, Constants, Errors, Part, Table}
@@ -34,9 +36,33 @@ pub items-in-order : map signatureWord items ≡ everyOther 23753 32
 unfolding items run everyOther
 items-in-order = refl
 
+-- they are what has a signature, and nothing else has one
+pub items-are : {e : Cell} → List·Memᴰ e items → isItem e ≡ true
+unfolding items run all
+items-are m = all-of isItem each m
+  where
+    each : all isItem items ≡ true
+    each = refl
+
+pub items-listed : (e : Cell) → isItem e ≡ true → List·Memᴰ e items
+unfolding items
+items-listed Mask h = absurd (never h)
+items-listed Mode h = absurd (never h)
+items-listed Clock h = absurd (never h)
+items-listed (Constants c) h =
+    Memᴰ·append-right (run Table 0 16) (Memᴰ·append-left (run Errors 0 8) (run-mem Constants c 0 8 (omega arith) (omega (arith, ltb-true c 8 h))))
+items-listed (Errors e) h =
+    Memᴰ·append-right (run Table 0 16) (Memᴰ·append-right (run Constants 0 8) (run-mem Errors e 0 8 (omega arith) (omega (arith, ltb-true e 8 h))))
+items-listed (Part k p) h = absurd (never h)
+items-listed (Table k) h = Memᴰ·append-left (run Constants 0 8 ++ run Errors 0 8) (run-mem Table k 0 16 (omega arith) (omega (arith, ltb-true k 16 h)))
+
 -- the i-th of them
 unfoldable pub itemAt : ℕ → Cell
 itemAt i = cond (ltb i 16) (Table i) (cond (ltb i 24) (Constants (i - 16)) (Errors (i - 24)))
+
+pub items-at : run itemAt 0 32 ≡ items
+unfolding itemAt items run
+items-at = refl
 
 at-constants : (c : ℕ) → c < 8 → itemAt (16 + c) ≡ Constants c
 unfolding itemAt

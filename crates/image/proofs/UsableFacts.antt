@@ -2,15 +2,16 @@
 use mathlib.Core.Path.{_≡_}
 use mathlib.Core.List.{List}
 use mathlib.Core.Bool.{true}
-use Prim.Native.Nat.{ℕ, _≤_, _<_}
+use Prim.Native.Nat.{ℕ, _+_, _≤_, _<_}
 use native.Mathlib.Omega.{arith}
 use lib.ListN.{length, getD}
 use borrow.Author.Tests.{leb-true, le-leb, eqb-true, eq-eqb}
-use Rattle.laws.proofs.Tests.{and-both, every-at, every-of}
+use Rattle.laws.specs.Bytes.{wordAt}
+use Rattle.laws.proofs.Tests.{and-both, every-at, every-of, every-same}
 use Rattle.image.specs.declared.cell.Cell.the-variants.{Errors}
-use Rattle.image.specs.Version.{Version, imageLength}
+use Rattle.image.specs.Version.{Version, v1, imageLength}
 use Rattle.image.specs.Cell.{offset}
-use Rattle.image.specs.Words.{tableWord}
+use Rattle.image.specs.Words.{tableWord, wordOffset}
 use Rattle.image.specs.Usable.{countOk, wordOk, usable, markOk, addressOk, address}
 
 pub record Usable (v : Version) (m : List ℕ) : Type 0 where
@@ -50,3 +51,15 @@ mark-same v m m′ h = rw (h 0 (omega arith), h 1 (omega arith), h 2 (omega arit
 pub address-same : (m m′ : List ℕ) → address m′ ≡ address m → addressOk m′ ≡ addressOk m
 unfolding addressOk
 address-same m m′ e = rw e
+
+-- nothing is judged from where version 1 ends: whatever stands there, an image is usable or not by its length and what is before
+pub usable-same : (v : Version) (m m′ : List ℕ) → length m′ ≡ length m → ((i : ℕ) → i < imageLength v1 → getD m′ i 0 ≡ getD m i 0) → usable v m′ ≡ usable v m
+unfolding usable countOk wordOk tableWord wordAt
+usable-same v m m′ long h =
+    rw (
+      long,
+      mark-same v m m′ (λ i l. h i (omega arith)),
+      address-same m m′ (h 5 (omega arith)),
+      every-same (countOk m′) (countOk m) 8 (λ e l. rw (h (offset (Errors e)) (omega arith))),
+      every-same (wordOk m′) (wordOk m) 16 (λ k l. rw (h (wordOffset k) (omega arith), h (wordOffset k + 1) (omega arith))),
+    )

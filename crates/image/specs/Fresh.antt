@@ -1,4 +1,4 @@
--- A fresh image (document 01, "The image" and "Refusal numbers"). Assumes nothing.
+-- A fresh image (document 01, "The image" and "Refusal numbers"; document 02, request 7, has version 2 and its length). Assumes nothing.
 use mathlib.Core.Path.{_≡_}
 use mathlib.Core.List.{List, [], _∷_}
 use mathlib.Core.Bool.{not}
@@ -9,7 +9,7 @@ use Rattle.laws.specs.Bytes.{lay, zeros}
 use Rattle.laws.specs.Checks.{Check, check, judged}
 use Rattle.image.specs.Version.{Version, versionNumber, imageLength}
 
--- mark, version, the address, all else 0
+-- mark, version, the address, all else 0, kept signatures too
 unfoldable pub fresh : Version → ℕ → List ℕ
 fresh v a = lay (zeros (imageLength v)) 0 (73 ∷ (90 ∷ (75 ∷ (0 ∷ (versionNumber v ∷ (a ∷ []))))))
 

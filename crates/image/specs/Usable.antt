@@ -1,4 +1,4 @@
--- When an image is usable (document 01, "The image"). Assumes nothing.
+-- When an image is usable (document 01, "The image"; document 02, request 7, has version 2 and its length). Assumes nothing.
 use mathlib.Core.List.{List}
 use mathlib.Core.Bool.{Bool, _&&_, not}
 use Prim.Native.Nat.{ℕ}
@@ -30,6 +30,6 @@ countOk m e = leb (getD m (offset (Errors e)) 0) 21
 unfoldable pub wordOk : List ℕ → ℕ → Bool
 wordOk m k = leb (tableWord m k) 2047
 
--- no other byte is judged
+-- no other byte is judged, and so no kept signature
 unfoldable pub usable : Version → List ℕ → Bool
 usable v m = eqb (length m) (imageLength v) && (markOk v m && (addressOk m && (every (countOk m) 8 && every (wordOk m) 16)))

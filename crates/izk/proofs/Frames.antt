@@ -24,7 +24,7 @@ use Rattle.izk.specs.Frames.{ended, on, after, right, example, examples}
 
 -- on the fresh image P11's frame has another reply than after P10, so that the examples tell whether P10 was stored; and sealed, P2's frame has another
 -- number, so that with it they tell whether the switch is asked
-pub examples-hold : (all right examples ≡ true) × (right (example [] ":013F01BF" 0 ":013F0100BF" 0) ≡ true)
+pub examples-hold : (all (right current) examples ≡ true) × (right current (example [] ":013F01BF" 0 ":013F0100BF" 0) ≡ true)
     × (served (heard Sealed) current (ended ":01330FBD") (fresh current 1) (zeros 269) .number ≡ 16)
 unfolding examples ended on after right served answered heard recognised sought lets tried ruleOf commands rowed rowsNamed zeroFrom blank constantsOk
     degrees rises clockOk modeOk markOk addressOk countOk tableWord wordOk usable fresh stored when constantsNamed errorsNamed isTable

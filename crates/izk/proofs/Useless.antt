@@ -34,9 +34,9 @@ use Rattle.izk.proofs.Sealed.{others-as-unsealed}
 
 -- ---- what an example says
 
-module _ (l : Example) (h : right l ≡ true) where
+module _ (l : Example) (h : right current l ≡ true) where
   abbrev A : BuffersAfter
-  A = on (after (fresh current 1) (l .earlier)) (l .frame)
+  A = on current (after current (fresh current 1) (l .earlier)) (l .frame)
 
   right-is : (eqb (A .number) (l .number) ≡ true) × ((same (replyIn A) (ended (l .reply)) && eqb (getD (A .image) 6 0) (l .mask)) ≡ true)
   unfolding right
@@ -60,23 +60,23 @@ P9 = example [] ":013D01C1" 0 ":013D010000C1" 0
 abbrev P11 : Example
 P11 = example (":013E0101140005A6" ∷ []) ":013F01BF" 0 ":013F0101140005A5" 0
 
-p1 : right P1 ≡ true
+p1 : right current P1 ≡ true
 unfolding examples
-p1 = all-of right (examples-hold .0) (List·Memᴰ·head refl)
+p1 = all-of (right current) (examples-hold .0) (List·Memᴰ·head refl)
 
-p2 : right P2 ≡ true
+p2 : right current P2 ≡ true
 unfolding examples
-p2 = all-of right (examples-hold .0) (List·Memᴰ·tail (List·Memᴰ·head refl))
+p2 = all-of (right current) (examples-hold .0) (List·Memᴰ·tail (List·Memᴰ·head refl))
 
-p9 : right P9 ≡ true
+p9 : right current P9 ≡ true
 unfolding examples
-p9 = all-of right (examples-hold .0)
+p9 = all-of (right current) (examples-hold .0)
     (List·Memᴰ·tail (List·Memᴰ·tail (List·Memᴰ·tail (List·Memᴰ·tail (List·Memᴰ·tail (List·Memᴰ·tail (List·Memᴰ·tail (List·Memᴰ·tail
     (List·Memᴰ·head refl)))))))))
 
-p11 : right P11 ≡ true
+p11 : right current P11 ≡ true
 unfolding examples
-p11 = all-of right (examples-hold .0)
+p11 = all-of (right current) (examples-hold .0)
     (List·Memᴰ·tail (List·Memᴰ·tail (List·Memᴰ·tail (List·Memᴰ·tail (List·Memᴰ·tail (List·Memᴰ·tail (List·Memᴰ·tail (List·Memᴰ·tail
     (List·Memᴰ·tail (List·Memᴰ·tail (List·Memᴰ·head refl)))))))))))
 
@@ -95,14 +95,14 @@ asks = (refl, refl)
 -- ---- the five
 
 -- a frame that is no write is served sealed as it is unsealed
-either-way : (s : Switch) (m : List ℕ) (t : String) → Asks t → served (heard s) current (ended t) m (zeros 269) ≡ on m t
+either-way : (s : Switch) (m : List ℕ) (t : String) → Asks t → served (heard s) current (ended t) m (zeros 269) ≡ on current m t
 unfolding on
 either-way Unsealed m t w = refl
 either-way Sealed m t w = others-as-unsealed current (ended t) m (zeros 269) w
 
 module _ (b : Block) (keeps : Keeps b) where
   -- what a call of the block does with a frame given as text
-  call : (n : ℕ) (s : Switch) (m : List ℕ) (t : String) → Asks t → b n s (ended t) m (zeros 269) ≡ on m t
+  call : (n : ℕ) (s : Switch) (m : List ℕ) (t : String) → Asks t → b n s (ended t) m (zeros 269) ≡ on current m t
   call n s m t w = keeps n s (ended t) m (zeros 269) ∙ either-way s m t w
 
   module _ (s : Switch) where
@@ -134,9 +134,11 @@ module _ (b : Block) (keeps : Keeps b) where
   unfolding after on codes ended
   not-storing-nothing r =
       other-length ":013F0101140005A5" ":013F0100BF" 19 13 refl refl (λ e. absurd (let z : ⊥ = omega arith in z))
-      (sym (reply-is P11 p11) ∙ ap (λ (m : List ℕ). replyIn (on m ":013F01BF")) kept ∙ reply-is (example [] ":013F01BF" 0 ":013F0100BF" 0) (examples-hold .1))
+      (sym (reply-is P11 p11)
+      ∙ ap (λ (m : List ℕ). replyIn (on current m ":013F01BF")) kept
+      ∙ reply-is (example [] ":013F01BF" 0 ":013F0100BF" 0) (examples-hold .1))
     where
-      kept : after (fresh current 1) (":013E0101140005A6" ∷ []) ≡ fresh current 1
+      kept : after current (fresh current 1) (":013E0101140005A6" ∷ []) ≡ fresh current 1
       kept =
           ap (λ a. a .image) (sym (keeps 0 Unsealed (ended ":013E0101140005A6") (fresh current 1) (zeros 269)))
           ∙ r 0 (ended ":013E0101140005A6") (fresh current 1) (zeros 269)

@@ -10,7 +10,7 @@ use lib.Dec.{eqb}
 use Rattle.laws.specs.Bytes.{zeros, codes}
 use Rattle.laws.specs.Checks.{same}
 use Rattle.reorder.specs.Reorder.{final}
-use Rattle.image.specs.Version.{current}
+use Rattle.image.specs.Version.{Version}
 use Rattle.image.specs.Fresh.{fresh}
 use Rattle.rules.specs.declared.switch.Switch.the-variants.{Unsealed}
 use Rattle.command.specs.Reply.{BuffersAfter, replyIn}
@@ -30,16 +30,16 @@ pub record Example : Type 0 where
   pub reply : String
   pub mask : ℕ
 
--- served unsealed on an image, with an output of 269 zeros
-unfoldable pub on : List ℕ → String → BuffersAfter
-on m f = served (heard Unsealed) current (ended f) m (zeros 269)
+-- served unsealed on an image of a version, with an output of 269 zeros
+unfoldable pub on : Version → List ℕ → String → BuffersAfter
+on v m f = served (heard Unsealed) v (ended f) m (zeros 269)
 
-unfoldable pub after : List ℕ → List String → List ℕ
-after m fs = final (λ m f. (on m f, on m f .image)) m fs
+unfoldable pub after : Version → List ℕ → List String → List ℕ
+after v m fs = final (λ m f. (on v m f, on v m f .image)) m fs
 
-unfoldable pub right : Example → Bool
-right l =
-    let a = on (after (fresh current 1) (l .earlier)) (l .frame) in
+unfoldable pub right : Version → Example → Bool
+right v l =
+    let a = on v (after v (fresh v 1) (l .earlier)) (l .frame) in
     eqb (a .number) (l .number) && (same (replyIn a) (ended (l .reply)) && eqb (getD (a .image) 6 0) (l .mask))
 
 abbrev pub example : List String → String → ℕ → String → ℕ → Example

@@ -3,30 +3,31 @@
 use mathlib.Core.Path.{_≡_, refl, sym, ap, ap₂, _∙_}
 use mathlib.Core.Logic.{_≢_, inl, inr, Dec·and}
 use mathlib.Core.List.{List, [], _∷_, _++_}
-use mathlib.Core.Bool.{true}
-use Prim.Native.Nat.{ℕ, _+_, _-_, _%_, _≤_, _<_}
+use mathlib.Core.Bool.{Bool, true, false}
+use Prim.Native.Nat.{ℕ, zero, suc, _+_, _-_, _%_, _≤_, _<_}
 use native.Mathlib.Decide.{decLt, decLe, ℕ-discrete}
 use native.Mathlib.Omega.{arith}
 use lib.ListN.{length, getD, take, drop}
 use Rattle.laws.specs.Bytes.{slice, lay, padded, sumOf, two, wordAt}
 use Rattle.laws.specs.Bits.{withBit}
+use Rattle.laws.proofs.Tests.{never}
 use Rattle.laws.proofs.Bytes.{In, length-lay, lay-in, lay-out, slice-both}
 use Rattle.reorder.specs.Reorder.{outcomes}
 use Rattle.frame.specs.Apart.{contentsOf}
 use Rattle.frame.specs.Built.{frameOf}
 use Rattle.image.specs.declared.cell.Cell.{Cell}
 use Rattle.image.specs.declared.cell.Signed.{Signed}
-use Rattle.image.specs.Version.{v1, v2, imageLength}
+use Rattle.image.specs.Version.{Version, v1, v2, imageLength}
 use Rattle.image.specs.Cell.{offset, size, extent, isCell, isItem}
-use Rattle.image.specs.Words.{wordOffset, keptOffset, signatureWord}
-use Rattle.image.specs.Usable.{address}
+use Rattle.image.specs.Words.{wordOffset, signatureWord}
+use Rattle.image.specs.Usable.{usable, address, addressOk}
 use Rattle.image.specs.Fresh.{fresh}
 use Rattle.image.proofs.Cells.{placed, size-some, part-numbers}
 use Rattle.image.proofs.UsableFacts.{facts}
-use Rattle.image.proofs.FreshImage.{head, head-at, rest-at, fresh-usable}
+use Rattle.image.proofs.FreshImage.{head-at, rest-at, fresh-usable}
 use Rattle.image.proofs.Stretches.{item-inside, item-low}
 use Rattle.image.proofs.Kept.{Counts, nowhere, in-word, counts-view}
-use Rattle.storing.specs.Signature.{fullSum, TrueWords}
+use Rattle.storing.specs.Signature.{fullSum}
 use Rattle.storing.specs.Stored.{Touch, touchedAll, bits, amending, stored, FitStore}
 use Rattle.storing.proofs.Touches.{Own, touched-byte, touched-length, Bit, no-bit, part-bit, bit-view, amend-first}
 use Rattle.storing.proofs.Elsewhere.{extent-fits}
@@ -39,18 +40,13 @@ use Rattle.rules.specs.Fits.{Fit, FitVerdict}
 use Rattle.command.specs.Act.{says, leaves}
 use Rattle.command.specs.Reply.{done}
 use Rattle.izk.specs.Heard.{heard, answered, Hearing, Lawful}
-use Rattle.izk.specs.Block.{served}
 use Rattle.izk.specs.Since.{Turn, inTurn}
 use Rattle.izk.proofs.Hearing.{heard-lawful}
-use Rattle.izk.proofs.Serving.{served-is, no-room-is-2, usable-stays}
-use Rattle.kept.specs.Same.{Same, asked}
+use Rattle.izk.proofs.Serving.{unusable-is-1, served-is, no-room-is-2, usable-stays}
+use Rattle.kept.specs.Same.{Common, Same, asked}
 use Rattle.kept.proofs.Truth.{fresh-true, call-true}
 
 -- ---- bytes in common
-
--- from the address on, up to the end of version 1
-abbrev pub Common : List ℕ → List ℕ → Type 0
-Common m n = (i : ℕ) → 5 ≤ i → i < imageLength v1 → getD m i 0 ≡ getD n i 0
 
 module _ (m n : List ℕ) (long : imageLength v1 ≤ length m) (long′ : imageLength v1 ≤ length n) (same : Common m n) where
   common-lay : (a : ℕ) (bs : List ℕ) → Common (lay m a bs) (lay n a bs)
@@ -205,6 +201,24 @@ fresh-same a some =
     go i low (yes e) = rw e (head-at v1 a 5 (omega arith) ∙ sym (head-at v2 a 5 (omega arith)))
     go i low (no n) = rest-at v1 a i (omega arith) ∙ sym (rest-at v2 a i (omega arith))
 
+-- an image of address 0 is not usable
+zero-unusable : (v : Version) → usable v (fresh v 0) ≡ false
+unfolding addressOk
+zero-unusable v = go (usable v (fresh v 0)) refl
+  where
+    go : (b : Bool) → usable v (fresh v 0) ≡ b → usable v (fresh v 0) ≡ false
+    go true u = absurd (never (rw (head-at v 0 5 (omega arith)) at (facts v (fresh v 0) u .address-is)))
+    go false u = u
+
+refused-alike : (ear : Switch → Hearing) (m n : List ℕ) → usable v1 m ≡ false → usable v2 n ≡ false → (xs : List Turn)
+    → outcomes (asked ear v1) m xs ≡ outcomes (asked ear v2) n xs
+refused-alike ear m n u w [] = refl
+refused-alike ear m n u w (x ∷ xs) =
+    rw (unusable-is-1 (ear (x .switch)) v1 (x .frame) m (x .out) u, unusable-is-1 (ear (x .switch)) v2 (x .frame) n (x .out) w)
+    (ap (λ (l : List (ℕ × ℕ × List ℕ)). (1, 0, lay (x .out) 0 []) ∷ l) (refused-alike ear m n u w xs))
+
 -- so whatever is asked from there on, in either position of the switch and with any outputs, the answers are the same
-pub versions-answer-alike : (a : ℕ) → a ≢ 0 → (xs : List Turn) → outcomes (asked heard v1) (fresh v1 a) xs ≡ outcomes (asked heard v2) (fresh v2 a) xs
-versions-answer-alike a some xs = answers-alike heard heard-lawful (fresh v1 a) (fresh v2 a) (fresh-same a some) xs
+pub versions-answer-alike : (a : ℕ) (xs : List Turn) → outcomes (asked heard v1) (fresh v1 a) xs ≡ outcomes (asked heard v2) (fresh v2 a) xs
+versions-answer-alike zero xs = refused-alike heard (fresh v1 0) (fresh v2 0) (zero-unusable v1) (zero-unusable v2) xs
+versions-answer-alike (suc a) xs =
+    answers-alike heard heard-lawful (fresh v1 (suc a)) (fresh v2 (suc a)) (fresh-same (suc a) (λ e. absurd (let z : ⊥ = omega arith in z))) xs

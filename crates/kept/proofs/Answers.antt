@@ -1,41 +1,39 @@
--- 55, 61 and 64 answer with the word that the image keeps, true or false: no byte of the item stands in what they reply. Assumes nothing.
+-- 55, 61 and 64 answer with the word that the image keeps, true or false: no byte of the item stands in what they reply. And no word is judged. Assumes
+-- nothing.
 use mathlib.Core.Path.{_≡_, refl, ap, _∙_}
 use mathlib.Core.List.{List, _++_}
-use Prim.Native.Nat.{ℕ, _+_, _-_, _*_}
+use mathlib.Core.Bool.{Bool, true, false}
+use Prim.Native.Nat.{ℕ, _+_, _-_, _*_, _≤_, _<_}
+use native.Mathlib.Decide.{decLe}
 use native.Mathlib.Omega.{arith}
-use lib.ListN.{take}
+use lib.ListN.{length, getD, take}
 use Rattle.laws.specs.Bytes.{two, wordAt}
-use Rattle.laws.specs.Checks.{within}
 use Rattle.frame.specs.Apart.{contentsOf}
 use Rattle.frame.specs.Built.{frameOf}
 use Rattle.image.specs.declared.cell.Cell.{Cell}
-use Rattle.image.specs.declared.cell.Cell.the-variants as Cells
 use Rattle.image.specs.declared.cell.Named.the-variants as Named′
 use Rattle.image.specs.declared.cell.Signed.the-variants.{At}
 use Rattle.image.specs.Version.{v2}
-use Rattle.image.specs.Cell.{when, constantsNamed, errorsNamed, isTable, tableIndex, tableNamed}
-use Rattle.image.specs.Words.{signatureWord}
-use Rattle.image.specs.Usable.{address}
-use Rattle.storing.specs.Signature.{wordKept}
+use Rattle.image.specs.Cell.{constantsNamed, errorsNamed, tableIndex, tableNamed}
+use Rattle.image.specs.Words.{keptOffset, signatureWord}
+use Rattle.image.specs.Usable.{usable, address}
+use Rattle.image.proofs.UsableFacts.{usable-same}
 use Rattle.rules.specs.declared.rule.Act.the-variants.{Sign}
 use Rattle.rules.specs.declared.rule.Found.the-variants as F
-use Rattle.rules.specs.declared.rule.Names.{Names}
-use Rattle.rules.specs.declared.rule.Names.the-variants as N
 use Rattle.rules.specs.declared.rule.Rule.{Rule}
-use Rattle.rules.specs.declared.switch.Switch.{Switch}
 use Rattle.rules.specs.declared.verdict.Verdict.the-variants.{Accepted}
 use Rattle.rules.specs.Rules.{byte, namedBy, commands, ruleOf}
 use Rattle.rules.proofs.Naming.{when-cell}
-use Rattle.izk.specs.Heard.{heard}
+use Rattle.izk.specs.Heard.{Hearing, Lawful}
 use Rattle.izk.specs.Block.{served}
-use Rattle.izk.proofs.Hearing.{heard-lawful}
-use Rattle.izk.proofs.Serving.{zero-is-accepted}
+use Rattle.izk.proofs.Serving.{unusable-is-1, no-room-is-2, zero-is-accepted}
+use Rattle.izk.proofs.Changes.{acceptance-by-address}
 use Rattle.izk.proofs.ReadBack.{Replies, replies-as-said}
 
 -- a command that was done replies its address, its own number and the byte behind it, and then the word at an offset that this byte gives
 abbrev pub AnswersWord : ℕ → (ℕ → ℕ) → Type 0
-AnswersWord k from = (s : Switch) (g m out : List ℕ) → byte (contentsOf g) 2 ≡ k → served (heard s) v2 g m out .number ≡ 0
-    → Replies (served (heard s) v2 g m out) (frameOf (take 3 (contentsOf g) ++ two (wordAt m (from (byte (contentsOf g) 3)))))
+AnswersWord k from = (ear : Hearing) → Lawful ear → (g m out : List ℕ) → byte (contentsOf g) 2 ≡ k → served ear v2 g m out .number ≡ 0
+    → Replies (served ear v2 g m out) (frameOf (take 3 (contentsOf g) ++ two (wordAt m (from (byte (contentsOf g) 3)))))
 
 -- a rule that signs what one byte names
 pub record Signs (k : ℕ) (from : ℕ → ℕ) : Type 0 where
@@ -46,12 +44,12 @@ pub record Signs (k : ℕ) (from : ℕ → ℕ) : Type 0 where
   pub word : (c : List ℕ) (d : Cell) → namedBy (rule .names) c ≡ Named′.Cell d → signatureWord d ≡ At (from (byte c 3))
 
 signs-answer : {k : ℕ} {from : ℕ → ℕ} → Signs k from → AnswersWord k from
-signs-answer {from} r s g m out is z =
-    let (u, room, x) = zero-is-accepted (heard s) (heard-lawful s) v2 g m out z in
-    let b = heard-lawful s .follows (address m) g (r .rule) (x .verdict) (rw is (r .found)) in
-    let h : heard s (address m) g ≡ Accepted 1 Sign (x .cell) = x .verdict ∙ rw (b .echoes, b .acts, r .echoes, r .acts) in
+signs-answer {from} r ear ok g m out is z =
+    let (u, room, x) = zero-is-accepted ear ok v2 g m out z in
+    let b = ok .follows (address m) g (r .rule) (x .verdict) (rw is (r .found)) in
+    let h : ear (address m) g ≡ Accepted 1 Sign (x .cell) = x .verdict ∙ rw (b .echoes, b .acts, r .echoes, r .acts) in
     let w = r .word (contentsOf g) (x .cell) (b .names) in
-    rw w at (replies-as-said (heard s) (heard-lawful s) v2 g m 1 Sign (x .cell) h u out room)
+    rw w at (replies-as-said ear ok v2 g m 1 Sign (x .cell) h u out room)
 
 -- ---- the three, by the offsets of document 02
 
@@ -70,6 +68,22 @@ unfolding ruleOf commands errorsNamed
 signs-64 =
     record { rule = _; found = refl; echoes = refl; acts = refl; word = λ c d h. let p = when-cell _ _ _ h in rw (← (p .1)) (ap At (omega arith)) }
 
--- on every image, whatever its words are
+-- on every image on which they are done, whatever its words are
 pub answers-words : AnswersWord 55 (λ n. 23785 + 2 * n) × AnswersWord 61 (λ t. 23753 + 2 * tableIndex t) × AnswersWord 64 (λ n. 23801 + 2 * (n - 1))
 answers-words = (signs-answer signs-55, signs-answer signs-61, signs-answer signs-64)
+
+-- ---- and no word is judged
+
+-- of two images of one length that have the same bytes before the words, and any words, a frame gets the same number: 1 and what follows ask nothing of
+-- these
+pub words-unjudged : (ear : Hearing) (f m m′ out : List ℕ) → length m′ ≡ length m → ((i : ℕ) → i < keptOffset 0 → getD m′ i 0 ≡ getD m i 0)
+    → served ear v2 f m′ out .number ≡ served ear v2 f m out .number
+words-unjudged ear f m m′ out long same = go (usable v2 m) refl (decLe 269 (length out))
+  where
+    alike : usable v2 m′ ≡ usable v2 m
+    alike = usable-same v2 m m′ long same
+
+    go : (b : Bool) → usable v2 m ≡ b → Dec (269 ≤ length out) → served ear v2 f m′ out .number ≡ served ear v2 f m out .number
+    go false u r = rw (unusable-is-1 ear v2 f m out u, unusable-is-1 ear v2 f m′ out (alike ∙ u))
+    go true u (no r) = rw (no-room-is-2 ear v2 f m out u (omega arith), no-room-is-2 ear v2 f m′ out (alike ∙ u) (omega arith))
+    go true u (yes r) = acceptance-by-address ear v2 f m′ m out out (alike ∙ u) u (same 5 (omega arith)) r r

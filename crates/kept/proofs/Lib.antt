@@ -2,3 +2,4 @@ pub mod Truth
 pub mod Answers
 pub mod Writes
 pub mod Alike
+pub mod Frames

@@ -1,9 +1,10 @@
--- The kept words are true on every image that calls lead to from a fresh one; and on any image a false one stays false by as much. A call stores or leaves
--- the image, and a store amends a word as it changes the sum. Assumes nothing.
+-- The kept words are true on every image that calls lead to from a fresh one; and on any image, whatever is served leaves a false one false by as much. A
+-- frame stores or leaves the image, and a store amends a word as it changes the sum. Assumes nothing.
 use mathlib.Core.Path.{_≡_, refl, sym, ap, _∙_}
-use mathlib.Core.Bool.{Bool, true, false, cond, not}
+use mathlib.Core.Logic.{_⊎_, inl, inr}
+use mathlib.Core.Bool.{Bool, true, false, not}
 use mathlib.Core.List.{List}
-use Prim.Native.Nat.{ℕ, _+_, _-_, _%_, _≤_, _<_}
+use Prim.Native.Nat.{ℕ, suc, _+_, _-_, _%_, _<_}
 use native.Mathlib.Omega.{arith}
 use lib.ListN.{length, drop}
 use lib.Dec.{eqb}
@@ -11,14 +12,14 @@ use Rattle.laws.specs.Bytes.{slice, sumOf, wordAt}
 use Rattle.laws.specs.Checks.{judged}
 use Rattle.laws.proofs.Bytes.{Bytes}
 use Rattle.laws.proofs.Sums.{sum-none}
+use Rattle.output.specs.declared.answer.Answer.{Answer}
 use Rattle.frame.specs.Apart.{contentsOf}
 use Rattle.image.specs.declared.cell.Cell.{Cell}
 use Rattle.image.specs.declared.cell.Signed.{Signed}
-use Rattle.image.specs.Version.{v2, imageLength}
+use Rattle.image.specs.Version.{Version, v2, current, imageLength}
 use Rattle.image.specs.Cell.{offset, size, isItem}
 use Rattle.image.specs.Words.{keptOffset}
-use Rattle.image.specs.Usable.{address}
-use Rattle.image.specs.Fresh.{fresh, unfresh, freshened}
+use Rattle.image.specs.Fresh.{fresh, FreshAfter, unfresh, freshened, Freshens}
 use Rattle.image.proofs.UsableFacts.{facts}
 use Rattle.image.proofs.FreshImage.{rest-at}
 use Rattle.image.proofs.Stretches.{item-low}
@@ -30,7 +31,9 @@ use Rattle.rules.specs.declared.rule.Act.the-variants.{Show, Sign, Store}
 use Rattle.rules.specs.declared.switch.Switch.{Switch}
 use Rattle.rules.specs.Fits.{Fit}
 use Rattle.command.specs.Act.{leaves}
+use Rattle.command.specs.Reply.{Serves}
 use Rattle.izk.specs.Heard.{heard, Hearing, Lawful}
+use Rattle.izk.specs.Block.{served}
 use Rattle.izk.specs.Since.{Turn, inTurn, left}
 use Rattle.izk.proofs.Hearing.{heard-lawful}
 use Rattle.izk.proofs.Changes.{accepted-fits}
@@ -50,20 +53,32 @@ fresh-true a e item = word (counts-view e) ∙ sym (ap (λ (s : ℕ). s % 65536)
     word (nowhere b) = refl
     word (in-word i b) = rw (rest-at v2 a (keptOffset i) (omega arith), rest-at v2 a (keptOffset i + 1) (omega arith))
 
--- so has a buffer that is laid out anew, or it is left as it was
-pub freshened-true : (m : List ℕ) (a : ℕ) → TrueWords m → TrueWords (freshened v2 m a .image)
-unfolding freshened judged
-freshened-true m a t = go (eqb (length m) (imageLength v2)) (not (eqb a 0))
-  where
-    go : (b c : Bool) → TrueWords (cond b (cond c (record { number = 0; image = fresh v2 a }) (unfresh m 11)) (unfresh m 1) .image)
-    go false c = t
-    go true false = t
-    go true true = fresh-true a
+-- a buffer that is laid out becomes a fresh image, or it is refused and stays
+pub data LaidOut (v : Version) (m : List ℕ) (a : ℕ) : Type 0 where
+  done : freshened v m a .image ≡ fresh v a → LaidOut v m a
+  refused-with : (n : ℕ) → freshened v m a ≡ unfresh m (suc n) → LaidOut v m a
 
--- ---- a call
+laid-out : (v : Version) (m : List ℕ) (a : ℕ) → LaidOut v m a
+unfolding freshened judged
+laid-out v m a = go (eqb (length m) (imageLength v)) refl (not (eqb a 0)) refl
+  where
+    go : (b : Bool) → eqb (length m) (imageLength v) ≡ b → (c : Bool) → not (eqb a 0) ≡ c → LaidOut v m a
+    go false e c f = refused-with 0 (rw e)
+    go true e false f = refused-with 10 (rw (e, f))
+    go true e true f = done (rw (e, f))
+
+-- so its words are true if they were
+pub freshened-true : (m : List ℕ) (a : ℕ) → TrueWords m → TrueWords (freshened v2 m a .image)
+freshened-true m a t = go (laid-out v2 m a)
+  where
+    go : LaidOut v2 m a → TrueWords (freshened v2 m a .image)
+    go (done e) = rw e (fresh-true a)
+    go (refused-with n e) = rw e t
+
+-- ---- a frame served
 
 module _ (ear : Switch → Hearing) (ok : (s : Switch) → Lawful (ear s)) where
-  -- what holds of an image, and of it after every store, holds of it after a call
+  -- what holds of an image, and of it after every act, holds of it after a frame
   turn-keeps : (R : List ℕ → Type 0) (m : List ℕ) (x : Turn) → R m
       → ((a : Act) (d : Cell) → Fit a d (contentsOf (x .frame)) → length m ≡ imageLength v2 → R (leaves v2 a d (contentsOf (x .frame)) m))
       → R (inTurn ear v2 m x .image)
@@ -106,6 +121,26 @@ pub reached-true : {m : List ℕ} → Reached v2 m → TrueWords m
 reached-true (fresh-one a) = fresh-true a
 reached-true (laid-anew m a r) = freshened-true m a (reached-true r)
 reached-true (after-call m x r) = call-true heard heard-lawful m x (reached-true r)
+
+-- ---- and what is reached is what the block's promises leave
+
+-- a call of serving, in either position of the switch, with any frame and any output
+pub serve-reaches : (s : Switch) (f m out : List ℕ) (r : Answer) (m′ o : List ℕ) → Serves (served (heard s) current f m out) r m′ o → Reached current m
+    → Reached current m′
+serve-reaches s f m out r m′ o p h = rw (p .image-is) (after-call m (record { switch = s; frame = f; out = out }) h)
+
+-- laying out: from any buffer if it is done, and on an image that was reached in any case
+pub fresh-reaches : (m : List ℕ) (a r : ℕ) (m′ : List ℕ) → Freshens (freshened current m a) r m′ → (r ≡ 0) ⊎ Reached current m → Reached current m′
+fresh-reaches m a r m′ p (inr h) = rw (p .image-is) (laid-anew m a h)
+fresh-reaches m a r m′ p (inl z) = rw (p .image-is) (go (laid-out current m a))
+  where
+    go : LaidOut current m a → Reached current (freshened current m a .image)
+    go (done e) = rw e (fresh-one a)
+    go (refused-with n e) = let y : suc n ≡ 0 = sym (ap (λ (l : FreshAfter). l .number) e) ∙ sym (p .number-is) ∙ z in absurd (omega arith)
+
+-- and any number of calls, one after the other
+pub turns-reach : (v : Version) (m : List ℕ) (xs : List Turn) → Reached v m → Reached v (left heard v m xs)
+turns-reach v = by-turns heard heard-lawful v (λ m xs m′. Reached v m → Reached v m′) (λ m h. h) (λ m x xs m′ k h. k (after-call m x h))
 
 -- ---- what it is to be false by something: on an image of bytes, a word is false by 0 exactly if it is true
 

@@ -1,32 +1,25 @@
 -- What a write changes in an image that keeps its signatures: its cell, its bit and its item's word, and nothing else. 51, 76 and 77 change no word.
 -- Assumes nothing.
-use mathlib.Core.Path.{_≡_, refl, sym, ap, ap₂, _∙_}
-use mathlib.Core.Logic.{_≢_, _⊎_, inl, inr}
+use mathlib.Core.Path.{_≡_, refl}
 use mathlib.Core.List.{List, [], _∷_, List·Memᴰ}
 use mathlib.Core.Bool.{Bool, true, false, cond}
-use Prim.Native.Nat.{ℕ, _+_, _≤_, _<_}
+use Prim.Native.Nat.{ℕ, _+_, _≤_}
 use native.Mathlib.Omega.{arith}
-use lib.ListN.{length, getD, drop}
+use lib.ListN.{getD, drop}
 use Rattle.laws.specs.Bytes.{slice}
 use Rattle.laws.specs.Checks.{all, among}
-use Rattle.laws.specs.Bits.{bit}
 use Rattle.laws.proofs.Tests.{never}
-use Rattle.laws.proofs.Bytes.{In}
 use Rattle.frame.specs.Apart.{contentsOf}
 use Rattle.image.specs.declared.cell.Cell.{Cell}
-use Rattle.image.specs.declared.cell.Cell.the-variants.{Mask, Mode, Clock, Part}
+use Rattle.image.specs.declared.cell.Cell.the-variants.{Mask, Mode, Clock}
 use Rattle.image.specs.declared.cell.Named.the-variants as Named′
-use Rattle.image.specs.declared.cell.Signed.{Signed}
-use Rattle.image.specs.declared.cell.Signed.the-variants.{Nowhere, At}
 use Rattle.image.specs.Version.{Version, v1, v2}
-use Rattle.image.specs.Cell.{offset, size, isCell, isItem, cellsOf}
-use Rattle.image.specs.Words.{wordOffset, signatureWord, tableWord}
+use Rattle.image.specs.Cell.{offset, size, isItem, cellsOf}
 use Rattle.image.specs.Usable.{usable, address}
 use Rattle.image.proofs.UsableFacts.{facts}
 use Rattle.storing.specs.Signature.{signature}
-use Rattle.storing.specs.Stored.{bits, amended, amending, touches}
-use Rattle.storing.proofs.Touches.{Own, bits-low}
-use Rattle.storing.proofs.Stores.{byte-stays, bit-stays, cell-filled}
+use Rattle.storing.specs.Stored.{amended, touches, FitStore}
+use Rattle.storing.proofs.Stores.{byte-stays, cell-filled}
 use Rattle.storing.proofs.Elsewhere.{signature-stays}
 use Rattle.storing.proofs.Signatures.{word-amended}
 use Rattle.rules.specs.declared.rule.Act.{Act}
@@ -34,51 +27,48 @@ use Rattle.rules.specs.declared.rule.Act.the-variants.{Show, Sign, Store}
 use Rattle.rules.specs.declared.rule.Names.{Names}
 use Rattle.rules.specs.declared.rule.Names.the-variants as N
 use Rattle.rules.specs.declared.rule.Rule.{Rule}
-use Rattle.rules.specs.declared.switch.Switch.{Switch}
-use Rattle.rules.specs.declared.verdict.Verdict.the-variants.{Accepted}
+use Rattle.rules.specs.declared.verdict.Verdict.{Verdict}
+use Rattle.rules.specs.declared.verdict.Verdict.the-variants.{Refused, Accepted}
 use Rattle.rules.specs.Rules.{byte, namedBy, commands}
 use Rattle.rules.specs.Fits.{Fit}
 use Rattle.rules.proofs.Fit.{found-tested}
 use Rattle.command.specs.Act.{leaves}
-use Rattle.izk.specs.Heard.{heard, Hearing, Lawful}
+use Rattle.command.specs.Reply.{done}
+use Rattle.izk.specs.Heard.{answered, Hearing, Lawful}
 use Rattle.izk.specs.Block.{served}
-use Rattle.izk.proofs.Hearing.{heard-lawful}
-use Rattle.izk.proofs.Serving.{served-is}
-use Rattle.izk.proofs.Changes.{accepted-fits, accepted-leaves}
-use Rattle.izk.proofs.Turns.{Went, refused, accepted, went}
+use Rattle.izk.proofs.Serving.{Way, early, through, way, served-is, zero-is-accepted}
+use Rattle.izk.proofs.Changes.{OnlyIn, accepted-fits, accepted-leaves, write-changes-its-cell}
 
 -- ---- an accepted write
 
--- every byte is as it was but the cell's, those of the sixteen tables' words, of which every bit is but its own, and the word that the cell counts in,
--- which is amended by what left the cell and what came; every other item's word is as it was
+-- it changes its cell, the words that change along, its bit and its item's signature, and nothing else; and the word of every other item is as it was
 pub record CellAndWord (d : Cell) (m m′ : List ℕ) : Type 0 where
-  pub bytes : (i : ℕ) → ¬ In (offset d) (size d) i → ¬ In (wordOffset 0) 32 i → ((o : ℕ) → signatureWord d ≡ At o → ¬ In o 2 i) → getD m′ i 0 ≡ getD m i 0
-  pub bits : (j q : ℕ) → j < 16 → d ≢ Part j q → bit (tableWord m′ j) q ≡ bit (tableWord m j) q
-  pub own : (e : Cell) → isItem e ≡ true → List·Memᴰ d (cellsOf e)
-      → signature v2 e m′ ≡ amended (slice (offset d) (size d) m) (slice (offset d) (size d) m′) (signature v2 e m)
+  pub only : OnlyIn v2 d m m′
   pub others : (e : Cell) → isItem e ≡ true → ¬ List·Memᴰ d (cellsOf e) → signature v2 e m′ ≡ signature v2 e m
 
-low-bits : (d : Cell) → isCell d ≡ true → (i : ℕ) → ¬ In (wordOffset 0) 32 i → ¬ Own (bits d) i
-low-bits d h i b w = let (j, r, p) = bits-low d i h w in b (omega arith, omega arith)
+module _ (ear : Hearing) (ok : Lawful ear) (f m out : List ℕ) (e k : ℕ) (d : Cell) (h : ear (address m) f ≡ Accepted e (Store k) d) where
+  abbrev bs : List ℕ
+  bs = drop k (contentsOf f)
 
-own-bytes : (d : Cell) (i : ℕ) → ¬ Own (bits d) i → (x : Signed) → ((o : ℕ) → x ≡ At o → ¬ In o 2 i) → ¬ Own (amending x (bits d)) i
-own-bytes d i low Nowhere h w = low w
-own-bytes d i low (At o) h (inl w) = h o refl w
-own-bytes d i low (At o) h (inr w) = low w
+  abbrev fit : FitStore d bs
+  fit = accepted-fits ear ok f m e (Store k) d h .act
 
-pub write-changes : (ear : Hearing) → Lawful ear → (f m out : List ℕ) (e k : ℕ) (d : Cell) → ear (address m) f ≡ Accepted e (Store k) d
-    → usable v2 m ≡ true → 269 ≤ length out → CellAndWord d m (served ear v2 f m out .image)
-write-changes ear ok f m out e k d h u room =
-    let bs = drop k (contentsOf f) in
-    let fit = accepted-fits ear ok f m e (Store k) d h .act in
-    let l = facts v2 m u .long-is in
-    rw (served-is ear v2 f m out u room, accepted-leaves ear v2 f m e (Store k) d h)
-    (record {
-      bytes = λ i a b c. byte-stays v2 d bs fit m l i a (own-bytes d i (low-bits d (fit .cell) i b) (signatureWord d) c);
-      bits = bit-stays v2 d bs fit m l;
-      own = λ e item has. rw (cell-filled v2 d bs fit m l) (word-amended m l d bs fit e item has);
-      others = λ e item out. signature-stays v2 m l d bs fit e item out;
-    })
+  pub write-changes : CellAndWord d m (served ear v2 f m out .image)
+  write-changes = record { only = write-changes-its-cell ear ok v2 f m out e d k h; others = go (way ear v2 f m out) }
+    where
+      go : Way ear v2 f m out → (c : Cell) → isItem c ≡ true → ¬ List·Memᴰ d (cellsOf c) → signature v2 c (served ear v2 f m out .image) ≡ signature v2 c m
+      go (early n i x) c item off = rw x
+      go (through u r x) c item off =
+          rw (x, accepted-leaves ear v2 f m e (Store k) d h) (signature-stays v2 m (facts v2 m u .long-is) d bs fit c item off)
+
+  -- done, it has amended the word of the item that holds its cell, by what left the cell and what stands there now
+  pub write-amends : served ear v2 f m out .number ≡ 0 → (c : Cell) → isItem c ≡ true → List·Memᴰ d (cellsOf c)
+      → let m′ = served ear v2 f m out .image in
+      signature v2 c m′ ≡ amended (slice (offset d) (size d) m) (slice (offset d) (size d) m′) (signature v2 c m)
+  write-amends z c item has =
+      let (u, room, x) = zero-is-accepted ear ok v2 f m out z in
+      let l = facts v2 m u .long-is in
+      rw (served-is ear v2 f m out u room, accepted-leaves ear v2 f m e (Store k) d h, cell-filled v2 d bs fit m l) (word-amended m l d bs fit c item has)
 
 -- ---- 51, 76 and 77
 
@@ -121,7 +111,8 @@ plain-cell v N.WholeTable c d p h = absurd (never p)
 plain-cell v N.ErrorTable c d p h = absurd (never p)
 plain-cell v N.ErrorRows c d p h = absurd (never p)
 
-module _ (s : Switch) (v : Version) (f m out : List ℕ) (three : among (byte (contentsOf f) 2) (51 ∷ (76 ∷ (77 ∷ []))) ≡ true) (i : ℕ) (high : 17 ≤ i) where
+module _ (ear : Hearing) (ok : Lawful ear) (v : Version) (f m out : List ℕ) (three : among (byte (contentsOf f) 2) (51 ∷ (76 ∷ (77 ∷ []))) ≡ true)
+    (i : ℕ) (high : 17 ≤ i) where
   after : (a : Act) (d : Cell) → Fit a d (contentsOf f) → Plain v d → usable v m ≡ true → getD (leaves v a d (contentsOf f) m) i 0 ≡ getD m i 0
   after Show d fit p u = refl
   after Sign d fit p u = refl
@@ -129,13 +120,18 @@ module _ (s : Switch) (v : Version) (f m out : List ℕ) (three : among (byte (c
       byte-stays v d (drop k (contentsOf f)) fit m (facts v m u .long-is) i (λ a. let z = p .before in absurd (omega arith)) (rw (p .alone) (λ w. w))
 
   -- every byte from the tables' words on stays, and so every word, on any image of either version
-  pub three-touch-none : getD (served (heard s) v f m out .image) i 0 ≡ getD m i 0
-  three-touch-none = go (went heard heard-lawful v m (record { switch = s; frame = f; out = out }))
+  pub three-touch-none : getD (served ear v f m out .image) i 0 ≡ getD m i 0
+  unfolding answered
+  three-touch-none = go (way ear v f m out)
     where
-      go : Went heard heard-lawful v m (record { switch = s; frame = f; out = out }) → getD (served (heard s) v f m out .image) i 0 ≡ getD m i 0
-      go (refused n l e) = rw e
-      go (accepted u x a d h e) =
-          let r = heard-lawful s .known (address m) f h in
-          let b = heard-lawful s .follows (address m) f (r .0) h (r .1) in
+      by : usable v m ≡ true → (r : Verdict) → ear (address m) f ≡ r → getD (done v (ear (address m) f) (contentsOf f) m .image) i 0 ≡ getD m i 0
+      by u (Refused n) h = rw h
+      by u (Accepted x a d) h =
+          let r = ok .known (address m) f h in
+          let b = ok .follows (address m) f (r .0) h (r .1) in
           let t : plain (r .0 .names) ≡ true = rw three at (found-tested ofThree (byte (contentsOf f) 2) (r .0) commands three-plain (r .1)) in
-          rw e (after a d (accepted-fits (heard s) (heard-lawful s) f m x a d h .act) (plain-cell v (r .0 .names) (contentsOf f) d t (b .names)) u)
+          rw h (after a d (accepted-fits ear ok f m x a d h .act) (plain-cell v (r .0 .names) (contentsOf f) d t (b .names)) u)
+
+      go : Way ear v f m out → getD (served ear v f m out .image) i 0 ≡ getD m i 0
+      go (early n x e) = rw e
+      go (through u room e) = rw e (by u (ear (address m) f) refl)

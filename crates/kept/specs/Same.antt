@@ -11,11 +11,15 @@ use Rattle.rules.specs.declared.switch.Switch.{Switch}
 use Rattle.izk.specs.Heard.{Hearing}
 use Rattle.izk.specs.Since.{Turn, inTurn}
 
--- both are usable; from the address on they have the same bytes, as far as version 1 goes; and the words of the second are true
+-- the same bytes from the address on, as far as version 1 goes
+abbrev pub Common : List ℕ → List ℕ → Type 0
+Common m n = (i : ℕ) → 5 ≤ i → i < imageLength v1 → getD m i 0 ≡ getD n i 0
+
+-- both are usable and have these bytes in common, and the words of the second are true
 pub record Same (m n : List ℕ) : Type 0 where
   pub first : usable v1 m ≡ true
   pub second : usable v2 n ≡ true
-  pub bytes : (i : ℕ) → 5 ≤ i → i < imageLength v1 → getD m i 0 ≡ getD n i 0
+  pub bytes : Common m n
   pub words : TrueWords n
 
 -- a turn's number, its length and its whole output; and the image

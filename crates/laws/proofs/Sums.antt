@@ -1,6 +1,6 @@
 -- The sum of a list, as a loop adds it up: the one fact behind the checksum and the signatures of all three sizes. And what becomes of a stretch's sum
 -- when bytes in it give way to others: the fact behind a signature that is kept. Assumes nothing.
-use mathlib.Core.Path.{_≡_, refl, sym, ap, _∙_}
+use mathlib.Core.Path.{_≡_, refl, ap, _∙_}
 use mathlib.Core.List.{List, [], _∷_, _++_}
 use Prim.Native.Nat.{ℕ, zero, suc, _+_, _-_, _≤_, _<_}
 use native.Mathlib.Omega.{arith}
@@ -51,7 +51,7 @@ sum-cut a n k l =
 
 -- ---- bytes laid inside a stretch: its sum gains what came and loses what left
 
-module _ (m : List ℕ) (a n k : ℕ) (new : List ℕ) (inside : a + n + length new + k ≤ length m) where
+module _ (m : List ℕ) (a n k : ℕ) (new : List ℕ) (inside : a + n + length new ≤ length m) where
   abbrev after : List ℕ
   after = lay m (a + n) new
 

@@ -74,6 +74,12 @@ module _ (t : ℕ → Bool) where
   every-of zero h = refl
   every-of (suc n) h = rw (h n (omega arith), every-of n (λ i l. h i (omega arith)))
 
+-- tests that agree below n
+pub every-same : (s t : ℕ → Bool) (n : ℕ) → ((i : ℕ) → i < n → s i ≡ t i) → every s n ≡ every t n
+unfolding every
+every-same s t zero h = refl
+every-same s t (suc n) h = rw (h n (omega arith), every-same s t n (λ i l. h i (omega arith)))
+
 -- ---- a test of each element
 
 pub all-of : {A : Type 0} (t : A → Bool) {x : A} {l : List A} → all t l ≡ true → List·Memᴰ x l → t x ≡ true

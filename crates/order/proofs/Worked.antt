@@ -15,7 +15,7 @@ use Rattle.reorder.proofs.Tests.{undoes, reorders-of}
 use Rattle.frame.specs.Digits.{isDigit, valueOf, charOf, charsOf, bytesOf, checksumOf}
 use Rattle.frame.specs.Apart.{lengthOk, endsOk, inner, bodyOf, contentsOf, sumOk, frameChecks}
 use Rattle.frame.specs.Built.{frameOf}
-use Rattle.image.specs.Version.{versionNumber, current}
+use Rattle.image.specs.Version.{current}
 use Rattle.image.specs.Cell.{run, when, isTable, tableIndex, tableNamed, partNamed}
 use Rattle.image.specs.Words.{tableWord}
 use Rattle.image.specs.Usable.{markOk, addressOk, countOk, wordOk, usable}
@@ -107,14 +107,14 @@ unfoldable pub signatures : List ℕ
 signatures = zeros 2 ++ (33 ∷ (0 ∷ (zeros 14 ++ (1 ∷ (128 ∷ zeros 44)))))
 
 -- the whole image: mark, version and address, the words, the rows of both tables, the signatures, and 0 elsewhere
-unfoldable pub expected : List ℕ → List ℕ
-expected signed =
-    (73 ∷ (90 ∷ (75 ∷ (0 ∷ (versionNumber current ∷ (1 ∷ zeros 11))))))
-    ++ (heldWords ++ (zeros 2584 ++ (rows 1 11 ++ (zeros 9856 ++ (rows 1 2 ++ (zeros 9600 ++ signed))))))
+unfoldable pub expected : List ℕ
+expected =
+    (73 ∷ (90 ∷ (75 ∷ (0 ∷ (2 ∷ (1 ∷ zeros 11))))))
+    ++ (heldWords ++ (zeros 2584 ++ (rows 1 11 ++ (zeros 9856 ++ (rows 1 2 ++ (zeros 9600 ++ signatures))))))
 
 -- as written, and otherwise, into the other outputs
-pub both-orders : (final (step (heard Unsealed) current) (fresh current 1) calls ≡ expected signatures)
-    × (final (step (heard Unsealed) current) (fresh current 1) callsAgain ≡ expected signatures)
+pub both-orders : (final (step (heard Unsealed) current) (fresh current 1) calls ≡ expected)
+    × (final (step (heard Unsealed) current) (fresh current 1) callsAgain ≡ expected)
 unfolding calls callsAgain other partsSent othersSent rows heldWords signatures expected served answered heard recognised sought lets tried stored ruleOf
     commands markOk addressOk countOk tableWord wordOk usable fresh when isTable tableIndex tableNamed partNamed lengthOk endsOk inner bodyOf contentsOf
     sumOk frameChecks frameOf isDigit valueOf charOf charsOf bytesOf checksumOf withBit judged within every all slice lay zeros padded sumOf two wordAt
@@ -122,9 +122,9 @@ both-orders = (refl, refl)
 
 -- ---- false words
 
--- an image with two: that of table 2 by 1234h, that of channel 0 by FFFFh
+-- an image with two: that of table 2 is 10h, though its first part holds 128 times 5, and that of channel 0 is FFFFh
 unfoldable pub falsified : List ℕ
-falsified = lay (lay (fresh current 1) 23755 (18 ∷ (52 ∷ []))) 23785 (255 ∷ (255 ∷ []))
+falsified = lay (lay (lay (fresh current 1) 2633 (replicate 128 5)) 23755 (0 ∷ (16 ∷ []))) 23785 (255 ∷ (255 ∷ []))
 
 -- two parts of table 2, both ways
 unfoldable pub parts : List Call
@@ -134,9 +134,9 @@ unfoldable pub partsBack : List Call
 partsBack = partsSent 2 2 1 ++ partsSent 2 1 1
 
 unfoldable pub falseSignatures : List ℕ
-falseSignatures = zeros 2 ++ (19 ∷ (180 ∷ (zeros 28 ++ (255 ∷ (255 ∷ zeros 30)))))
+falseSignatures = zeros 2 ++ (255 ∷ (16 ∷ (zeros 28 ++ (255 ∷ (255 ∷ zeros 30)))))
 
--- one image is left, and both words are false by as much as before: 1234h and 128 times 3 are 13B4h
+-- one image is left: 10h less 128 times 5, and 128 times 3 more, is FF10h, remainder by 65,536; the word of channel 0 stays
 pub either-order-false : (slice 23753 64 (final (step (heard Unsealed) current) falsified parts) ≡ falseSignatures)
     × (final (step (heard Unsealed) current) falsified parts ≡ final (step (heard Unsealed) current) falsified partsBack)
 unfolding falsified parts partsBack falseSignatures partsSent served answered heard recognised sought lets tried stored ruleOf commands markOk addressOk

@@ -6,7 +6,7 @@ use mathlib.Core.Bool.{true}
 use Prim.Native.Nat.{ℕ, _+_, _-_, _*_, _/_, _%_, _≤_, _<_}
 use native.Mathlib.Decide.{ℕ-discrete}
 use native.Mathlib.Omega.{arith}
-use lib.ListN.{length, getD}
+use lib.ListN.{length}
 use Rattle.laws.specs.Bytes.{slice, lay, padded, sumOf, wordAt}
 use Rattle.laws.proofs.Tests.{all-of}
 use Rattle.laws.proofs.Bytes.{Bytes, In, length-lay, slice-same, length-padded, word-two, word-out}
@@ -17,7 +17,7 @@ use Rattle.image.specs.declared.cell.Signed.the-variants.{Nowhere, At}
 use Rattle.image.specs.Version.{Version, v1, v2, imageLength}
 use Rattle.image.specs.Cell.{offset, size, isCell, isItem, cellsOf}
 use Rattle.image.specs.Words.{keptOffset, signatureWord}
-use Rattle.image.proofs.Cells.{placed, word-inside, covered}
+use Rattle.image.proofs.Cells.{placed, covered}
 use Rattle.image.proofs.Stretches.{item-made, item-inside}
 use Rattle.image.proofs.Kept.{itemAt, Counted, Counts, nowhere, in-word, counts-view, kept-words, place, holds}
 use Rattle.storing.specs.Signature.{fullSum, wordKept, signature, TrueWords, falseBy}
@@ -26,9 +26,13 @@ use Rattle.storing.proofs.Touches.{Own, touched-byte, touched-word, bit
 use Rattle.storing.proofs.Stores.{stored-length}
 use Rattle.storing.proofs.Elsewhere.{sum-stays, signature-stays}
 
+pub sum-word : (d : Cell) (m : List ℕ) → fullSum d m < 65536
+unfolding fullSum
+sum-word d m = omega arith
+
 pub signature-word : (v : Version) (d : Cell) (m : List ℕ) → Bytes m → signature v d m < 65536
-unfolding fullSum wordAt
-signature-word v1 d m b = omega arith
+unfolding wordAt
+signature-word v1 d m b = sum-word d m
 signature-word v2 d m b = go (signatureWord d)
   where
     go : (x : Signed) → wordKept x m < 65536
@@ -68,7 +72,7 @@ module _ (v : Version) (m : List ℕ) (long : length m ≡ imageLength v) (d : C
       let k = offset e + size e - (offset d + size d) in
       let there : offset e + n ≡ offset d = omega (arith, h .low) in
       let whole : n + (size d + k) ≡ size e = omega (arith, h .low, h .high) in
-      let inside : offset e + n + length new + k ≤ length m = omega (arith, item-inside v e item, h .low, h .high) in
+      let inside : offset e + n + length new ≤ length m = omega (arith, item-inside v e item, h .low, h .high) in
       ap (λ (l : List ℕ). sumOf l % 65536) item-laid
       ∙ balance (sumOf (slice (offset e) (size e) m)) (sumOf (slice (offset e) (size e) laid)) (sumOf old) (sumOf new)
       (rw (there, full, whole) at (sum-laid m (offset e) n k new inside))
@@ -148,11 +152,10 @@ module _ (m : List ℕ) (long : length m ≡ imageLength v2) (d : Cell) (bs : Li
       go (no out) = signature-stays v2 m long d bs fit e item out ∙ t e item ∙ sym (sum-stays v2 m long d bs fit e item out)
 
   pub store-false-by : (e : Cell) → isItem e ≡ true → falseBy e (stored v2 d bs m) ≡ falseBy e m
-  unfolding fullSum
   store-false-by e item = go (held? d e (fit .cell) item)
     where
       go : Dec (List·Memᴰ d (cellsOf e)) → falseBy e (stored v2 d bs m) ≡ falseBy e m
       go (yes has) =
           rw (word-amended m long d bs fit e item has, sum-amended v2 m long d bs fit e item has)
-          (apart-alike (signature v2 e m) (fullSum e m) (sumOf (slice (offset d) (size d) m)) (sumOf (padded (size d) bs)) (omega arith))
+          (apart-alike (signature v2 e m) (fullSum e m) (sumOf (slice (offset d) (size d) m)) (sumOf (padded (size d) bs)) (sum-word e m))
       go (no out) = rw (signature-stays v2 m long d bs fit e item out, sum-stays v2 m long d bs fit e item out)

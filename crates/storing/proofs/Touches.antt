@@ -17,10 +17,10 @@ use Rattle.image.specs.declared.cell.Signed.{Signed}
 use Rattle.image.specs.declared.cell.Signed.the-variants.{Nowhere, At}
 use Rattle.image.specs.Version.{Version, v1, v2, imageLength}
 use Rattle.image.specs.Cell.{isCell, offset, size}
-use Rattle.image.specs.Words.{words, wordOffset, keptOffset, signatureWord, tableWord}
+use Rattle.image.specs.Words.{words, wordOffset, keptOffset, tableWord}
 use Rattle.image.proofs.Cells.{InSpans, word-inside, table-words, table-word-inside, placed, part-numbers}
 use Rattle.image.proofs.Kept.{Counts, nowhere, in-word, counts-view, kept-words}
-use Rattle.storing.specs.Stored.{Touch, touched, touchedAll, bitOf, bits, amended, amendAt, amending, touches}
+use Rattle.storing.specs.Stored.{Touch, touched, touchedAll, bitOf, bits, amendAt, amending, touches}
 
 -- ---- one touch
 

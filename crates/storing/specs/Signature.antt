@@ -1,4 +1,4 @@
--- An item's signature (document 01, "Commands"), and where an image keeps it (document 02, request 7). Assumes nothing.
+-- An item's signature (document 01, "Commands"), and what an image that keeps it says of it (document 02, request 7). Assumes nothing.
 use mathlib.Core.Path.{_≡_}
 use mathlib.Core.List.{List}
 use mathlib.Core.Bool.{true}
