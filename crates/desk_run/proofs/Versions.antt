@@ -1,5 +1,5 @@
 -- The desk program prints what it printed when images were of version 1 and summed up each signature that was asked for (document 02, request 7): for every
--- input. From fresh images the two versions are answered alike, piece by piece. Assumes nothing.
+-- input. From fresh images the two versions answer alike, piece by piece. Assumes nothing.
 use mathlib.Core.Path.{_≡_, refl, sym, ap, ap₂}
 use mathlib.Core.Bool.{cond}
 use mathlib.Core.List.{List, [], _∷_, _++_}

@@ -1,4 +1,4 @@
--- A fresh image: how code comes by it, that it is usable, and that it holds no part. Assumes nothing.
+-- A fresh image: how code comes by it, how it begins, that it is usable, and that it holds no part. Assumes nothing.
 use mathlib.Core.Path.{_≡_, refl, sym, ap, _∙_}
 use mathlib.Core.Logic.{_≢_}
 use mathlib.Core.List.{List, [], _∷_, _++_, append-nil}

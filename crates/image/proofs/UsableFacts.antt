@@ -8,8 +8,8 @@ use lib.ListN.{length, getD}
 use borrow.Author.Tests.{leb-true, le-leb, eqb-true, eq-eqb}
 use Rattle.laws.specs.Bytes.{wordAt}
 use Rattle.laws.proofs.Tests.{and-both, every-at, every-of, every-same}
-use Rattle.image.specs.declared.cell.Cell.the-variants.{Errors}
-use Rattle.image.specs.Version.{Version, v1, imageLength}
+use Rattle.image.specs.declared.cell.Cell.the-variants.{Errors, Table}
+use Rattle.image.specs.Version.{Version, v1, v2, versionNumber, imageLength}
 use Rattle.image.specs.Cell.{offset}
 use Rattle.image.specs.Words.{tableWord, wordOffset}
 use Rattle.image.specs.Usable.{countOk, wordOk, usable, markOk, addressOk, address}
@@ -52,8 +52,9 @@ pub address-same : (m m′ : List ℕ) → address m′ ≡ address m → addres
 unfolding addressOk
 address-same m m′ e = rw e
 
--- nothing is judged from where version 1 ends: whatever stands there, an image is usable or not by its length and what is before
-pub usable-same : (v : Version) (m m′ : List ℕ) → length m′ ≡ length m → ((i : ℕ) → i < imageLength v1 → getD m′ i 0 ≡ getD m i 0) → usable v m′ ≡ usable v m
+-- nothing is judged from the tables on: whatever stands there, an image is usable or not by its length and what is before
+pub usable-same : (v : Version) (m m′ : List ℕ) → length m′ ≡ length m → ((i : ℕ) → i < offset (Table 0) → getD m′ i 0 ≡ getD m i 0)
+    → usable v m′ ≡ usable v m
 unfolding usable countOk wordOk tableWord wordAt
 usable-same v m m′ long h =
     rw (
@@ -63,3 +64,21 @@ usable-same v m m′ long h =
       every-same (countOk m′) (countOk m) 8 (λ e l. rw (h (offset (Errors e)) (omega arith))),
       every-same (wordOk m′) (wordOk m) 16 (λ k l. rw (h (wordOffset k) (omega arith), h (wordOffset k + 1) (omega arith))),
     )
+
+-- the letters IZK and a version in two bytes
+abbrev pub Begins : ℕ → List ℕ → Type 0
+Begins n m = (getD m 0 0 ≡ 73) × (getD m 1 0 ≡ 90) × (getD m 2 0 ≡ 75) × (getD m 3 0 ≡ 0) × (getD m 4 0 ≡ n)
+
+begins : (v : Version) (m : List ℕ) → usable v m ≡ true → (length m ≡ imageLength v) × Begins (versionNumber v) m
+unfolding markOk
+begins v m u =
+    let f = facts v m u in
+    let p = and-both _ _ (f .mark) in
+    let q = and-both _ _ (p .1) in
+    let r = and-both _ _ (q .1) in
+    let s = and-both _ _ (r .1) in
+    (f .long-is, (eqb-true _ _ (p .0), eqb-true _ _ (q .0), eqb-true _ _ (r .0), eqb-true _ _ (s .0), eqb-true _ _ (s .1)))
+
+-- so no other number and no other length is usable
+pub usable-begins : (m : List ℕ) → (usable v1 m ≡ true → (length m ≡ 23753) × Begins 1 m) × (usable v2 m ≡ true → (length m ≡ 23817) × Begins 2 m)
+usable-begins m = (begins v1 m, begins v2 m)

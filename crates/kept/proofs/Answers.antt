@@ -81,7 +81,7 @@ pub words-unjudged : (ear : Hearing) (f m m′ out : List ℕ) → length m′ �
 words-unjudged ear f m m′ out long same = go (usable v2 m) refl (decLe 269 (length out))
   where
     alike : usable v2 m′ ≡ usable v2 m
-    alike = usable-same v2 m m′ long same
+    alike = usable-same v2 m m′ long (λ i l. same i (omega arith))
 
     go : (b : Bool) → usable v2 m ≡ b → Dec (269 ≤ length out) → served ear v2 f m′ out .number ≡ served ear v2 f m out .number
     go false u r = rw (unusable-is-1 ear v2 f m out u, unusable-is-1 ear v2 f m′ out (alike ∙ u))

@@ -54,7 +54,7 @@ fresh-true a e item = word (counts-view e) ∙ sym (ap (λ (s : ℕ). s % 65536)
     word (in-word i b) = rw (rest-at v2 a (keptOffset i) (omega arith), rest-at v2 a (keptOffset i + 1) (omega arith))
 
 -- a buffer that is laid out becomes a fresh image, or it is refused and stays
-pub data LaidOut (v : Version) (m : List ℕ) (a : ℕ) : Type 0 where
+data LaidOut (v : Version) (m : List ℕ) (a : ℕ) : Type 0 where
   done : freshened v m a .image ≡ fresh v a → LaidOut v m a
   refused-with : (n : ℕ) → freshened v m a ≡ unfresh m (suc n) → LaidOut v m a
 

@@ -56,14 +56,15 @@ module _ (v : Version) (m : List ℕ) (long : length m ≡ imageLength v) (d : C
   unfolding fullSum
   sum-stays = ap (λ (l : List ℕ). sumOf l % 65536) (slice-stays v m long d bs fit e (item-made e item) out (size e) (omega arith))
 
+module _ (d : Cell) (cell : isCell d ≡ true) (e : Cell) (item : isItem e ≡ true) (out : ¬ List·Memᴰ d (cellsOf e)) where
   -- its word is not among those that change along with the cell
   word-apart : {x : Signed} → Counts d x → (i : ℕ) → Counted e i → (j : ℕ) → In (keptOffset i) 2 j → ¬ Own (amending x (bits d)) j
-  word-apart (nowhere a) i b j p w = let z = bits-below d j (fit .cell) w in omega arith
+  word-apart (nowhere a) i b j p w = let z = bits-below d j cell w in omega arith
   word-apart (in-word k a) i b j p (inl w) =
       let same : k ≡ i = omega arith in
       let whole : itemAt k ≡ e = ap itemAt same ∙ b .is item .1 in
-      out (rw whole at (a .held (fit .cell) .1))
-  word-apart (in-word k a) i b j p (inr w) = let z = bits-below d j (fit .cell) w in omega arith
+      out (rw whole at (a .held cell .1))
+  word-apart (in-word k a) i b j p (inr w) = let z = bits-below d j cell w in omega arith
 
 -- so its signature stays
 module _ (m : List ℕ) (long : length m ≡ imageLength v2) (d : Cell) (bs : List ℕ) (fit : FitStore d bs)
@@ -71,7 +72,7 @@ module _ (m : List ℕ) (long : length m ≡ imageLength v2) (d : Cell) (bs : Li
   kept-byte : (i : ℕ) → Counted e i → (j : ℕ) → In (keptOffset i) 2 j → getD (stored v2 d bs m) j 0 ≡ getD m j 0
   kept-byte i b j p =
       byte-stays v2 d bs fit m long j (λ a. placed v2 d (fit .cell) .words j a (kept-words i (b .is item .0) j p))
-      (word-apart v2 m long d bs fit e item out (counts-view d) i b j p)
+      (word-apart d (fit .cell) e item out (counts-view d) i b j p)
 
   word-stays : {y : Signed} → Counts e y → wordKept y (stored v2 d bs m) ≡ wordKept y m
   unfolding wordAt

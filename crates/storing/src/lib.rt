@@ -1,4 +1,4 @@
-// Storing bytes in a cell of the image, with the bit and the signature that go along; and what is signed.
+// Storing bytes in a cell of the image, with the bit and the signature that go along; and what an item's signature is.
 mod signature;
 mod stored;
 

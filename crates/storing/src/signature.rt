@@ -10,7 +10,7 @@ ghost use Rattle.image.specs.Version.{current, imageLength};
 ghost use Rattle.image.specs.Cell.{isItem};
 ghost use Rattle.storing.specs.Signature.{signature};
 
-// The sum behind it, remainder by 65,536, whatever the length.
+// The sum behind it, remainder by 65,536.
 pub fn sum(item: &[u8]) -> u16
     requires { ⌜ length (now item) ≤ 65536 ⌝ }
     ensures { λ r. ⌜ r ≡ sumOf (now (item .entry)) % 65536 ⌝ }
