@@ -7,7 +7,7 @@ use native.Mathlib.Omega.{arith}
 use lib.ListN.{getD, drop}
 use Rattle.laws.specs.Bytes.{two}
 use Rattle.image.specs.declared.cell.Cell.{Cell}
-use Rattle.image.specs.Version.{Version}
+use Rattle.image.specs.declared.version.Version.{Version}
 use Rattle.image.specs.Cell.{offset, extent}
 use Rattle.image.proofs.Cells.{size-some}
 use Rattle.image.proofs.UsableFacts.{Usable}

@@ -14,7 +14,8 @@ use Rattle.output.specs.Output.{OutputAfter, Does, written}
 use Rattle.frame.specs.Built.{built, frameOf}
 use Rattle.frame.proofs.Answers.{built-done}
 use Rattle.image.specs.declared.cell.Cell.{Cell}
-use Rattle.image.specs.Version.{Version, current}
+use Rattle.image.specs.declared.version.Version.{Version}
+use Rattle.image.specs.Version.{current}
 use Rattle.image.specs.Cell.{offset, extent}
 use Rattle.image.specs.Usable.{usable}
 use Rattle.image.proofs.UsableFacts.{facts, Usable}

@@ -5,7 +5,7 @@ use Prim.Native.Nat.{ℕ}
 use lib.ListN.{getD, drop}
 use Rattle.laws.specs.Bytes.{slice, two}
 use Rattle.image.specs.declared.cell.Cell.{Cell}
-use Rattle.image.specs.Version.{Version}
+use Rattle.image.specs.declared.version.Version.{Version}
 use Rattle.image.specs.Cell.{offset, extent, cellsOf}
 use Rattle.storing.specs.Signature.{signature}
 use Rattle.storing.specs.Stored.{stored}

@@ -8,7 +8,7 @@ use Rattle.laws.specs.Bytes.{zeros}
 use Rattle.laws.proofs.Bytes.{length-lay, length-zeros}
 use Rattle.output.specs.declared.answer.Answer.{Answer}
 use Rattle.output.specs.Cursor.{Laid}
-use Rattle.image.specs.Version.{Version}
+use Rattle.image.specs.declared.version.Version.{Version}
 use Rattle.rules.specs.declared.switch.Switch.the-variants.{Unsealed}
 use Rattle.command.specs.Reply.{Serves}
 use Rattle.izk.specs.Heard.{heard, Hearing, Lawful}

@@ -15,7 +15,8 @@ use Rattle.laws.proofs.Walks.{none-left}
 use Rattle.laws.proofs.Bytes.{length-lay, lay-between}
 use Rattle.text.specs.Cut.{pieces, pieceEnd}
 use Rattle.text.proofs.Cuts.{pieceAt, piece-reaches, pieces-from}
-use Rattle.image.specs.Version.{Version, current}
+use Rattle.image.specs.declared.version.Version.{Version}
+use Rattle.image.specs.Version.{current}
 use Rattle.image.specs.Fresh.{fresh}
 use Rattle.desk_run.specs.declared.turns.Progress.{Progress}
 use Rattle.desk_run.specs.Desk.{printed, left, transcript, leftBy, tooLongLine, deskText, deskImage, Ran, stopped, ran, started, Runs}

@@ -13,7 +13,8 @@ use Rattle.laws.proofs.Walks.{none-left}
 use Rattle.output.specs.Cursor.{Laid}
 use Rattle.text.specs.Cut.{pieces, pieceEnd}
 use Rattle.text.proofs.Cuts.{pieceAt, end-past, piece-reaches, pieces-from}
-use Rattle.image.specs.Version.{Version, current}
+use Rattle.image.specs.declared.version.Version.{Version}
+use Rattle.image.specs.Version.{current}
 use Rattle.desk_run.specs.Desk.{printed, left, Ran, stopped, ran, Runs}
 
 module _ (v : Version) (from at : ℕ) (m text : List ℕ) where

@@ -12,8 +12,10 @@ use Rattle.laws.specs.Checks.{judged}
 use Rattle.laws.proofs.Bytes.{length-lay}
 use Rattle.output.specs.Cursor.{Laid}
 use Rattle.text.specs.Cut.{pieces}
-use Rattle.image.specs.Version.{Version, current, imageLength}
-use Rattle.image.specs.Fresh.{fresh, freshened, Freshens}
+use Rattle.image.specs.declared.version.Version.{Version}
+use Rattle.image.specs.Version.{current, imageLength}
+use Rattle.image.specs.Made.{Makes}
+use Rattle.image.specs.Fresh.{fresh, freshened}
 use Rattle.desk_run.specs.declared.turns.Progress.{Progress}
 use Rattle.desk_run.specs.Desk.{tooLong, tooLongLine, stopped, ran, started, Runs, Lent}
 
@@ -57,7 +59,7 @@ module _ (buffer : List ℕ) (n : ℕ) (m text : List ℕ) (l : Lent buffer n m 
         onward = λ g i. omega arith;
       })
 
-  pub starts-short : (k : ℕ) (m₁ : List ℕ) (r : Progress) (m′ text′ : List ℕ) → n ≤ 65536 → Freshens (freshened current m 1) k m₁
+  pub starts-short : (k : ℕ) (m₁ : List ℕ) (r : Progress) (m′ text′ : List ℕ) → n ≤ 65536 → Makes (freshened current m 1) k m₁
       → Runs (ran current 0 0 m₁ text (pieces (drop 0 (take n buffer)))) (take n buffer) 0 r m′ text′
       → Runs (started current (take n buffer) m text) (take n buffer) 0 r m′ text′
   starts-short k m₁ r m′ text′ h f p =

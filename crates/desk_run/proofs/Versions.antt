@@ -8,7 +8,7 @@ use native.Mathlib.Omega.{arith}
 use lib.ListN.{take}
 use Rattle.laws.specs.Bytes.{zeros}
 use Rattle.text.specs.Cut.{pieces}
-use Rattle.image.specs.Version.{v1, v2}
+use Rattle.image.specs.declared.version.Version.the-variants.{V1, V2}
 use Rattle.image.specs.Fresh.{fresh}
 use Rattle.rules.specs.declared.switch.Switch.the-variants.{Unsealed}
 use Rattle.izk.specs.Heard.{heard}
@@ -23,23 +23,23 @@ use Rattle.desk_run.specs.Desk.{printed, left, transcript, tooLong, tooL
 abbrev turn : List ℕ → Turn
 turn p = record { switch = Unsealed; frame = p; out = zeros 269 }
 
-printed-alike : (m n : List ℕ) → Same m n → (p : List ℕ) → printed v1 m p ≡ printed v2 n p
+printed-alike : (m n : List ℕ) → Same m n → (p : List ℕ) → printed V1 m p ≡ printed V2 n p
 unfolding printed
 printed-alike m n s p =
-    ap (λ (a : ℕ × ℕ × List ℕ). lineOf (a .0) (take (a .1) (a .2))) (turn-alike m n s heard heard-lawful (turn p) .0)
+    ap (λ (a : ℕ × ℕ × List ℕ). lineOf (a .0) (take (a .1) (a .2))) (turn-alike m n s heard heard-lawful (turn p))
 
-left-same : (m n : List ℕ) → Same m n → (p : List ℕ) → Same (left v1 m p) (left v2 n p)
+left-same : (m n : List ℕ) → Same m n → (p : List ℕ) → Same (left V1 m p) (left V2 n p)
 unfolding left
 left-same m n s p = stays-same m n s heard heard-lawful (turn p)
 
-transcript-alike : (m n : List ℕ) → Same m n → (ps : List (List ℕ)) → transcript v1 m ps ≡ transcript v2 n ps
+transcript-alike : (m n : List ℕ) → Same m n → (ps : List (List ℕ)) → transcript V1 m ps ≡ transcript V2 n ps
 unfolding transcript
 transcript-alike m n s [] = refl
 transcript-alike m n s (p ∷ ps) =
-    ap₂ (λ (l k : List ℕ). l ++ k) (printed-alike m n s p) (transcript-alike (left v1 m p) (left v2 n p) (left-same m n s p) ps)
+    ap₂ (λ (l k : List ℕ). l ++ k) (printed-alike m n s p) (transcript-alike (left V1 m p) (left V2 n p) (left-same m n s p) ps)
 
-pub prints-as-version-1 : (input : List ℕ) → deskText input ≡ cond (tooLong input) tooLongLine (transcript v1 (fresh v1 1) (pieces input))
+pub prints-as-version-1 : (input : List ℕ) → deskText input ≡ cond (tooLong input) tooLongLine (transcript V1 (fresh V1 1) (pieces input))
 unfolding deskText
 prints-as-version-1 input =
     ap (cond (tooLong input) tooLongLine)
-    (sym (transcript-alike (fresh v1 1) (fresh v2 1) (fresh-same 1 (λ e. absurd (let z : ⊥ = omega arith in z))) (pieces input)))
+    (sym (transcript-alike (fresh V1 1) (fresh V2 1) (fresh-same 1 (λ e. absurd (let z : ⊥ = omega arith in z))) (pieces input)))

@@ -8,7 +8,8 @@ use lib.Dec.{leb, ltb}
 use Rattle.laws.specs.Bytes.{lay, zeros, codes}
 use Rattle.reorder.specs.Reorder.{final}
 use Rattle.text.specs.Cut.{pieces}
-use Rattle.image.specs.Version.{Version, current, imageLength}
+use Rattle.image.specs.declared.version.Version.{Version}
+use Rattle.image.specs.Version.{current, imageLength}
 use Rattle.image.specs.Fresh.{fresh}
 use Rattle.rules.specs.declared.switch.Switch.the-variants.{Unsealed}
 use Rattle.command.specs.Reply.{replyIn}

@@ -15,7 +15,9 @@ use Rattle.laws.proofs.Tests.{and-both, or-either, never, all-of}
 use Rattle.laws.proofs.Bytes.{In}
 use Rattle.image.specs.declared.cell.Cell.{Cell}
 use Rattle.image.specs.declared.cell.Cell.the-variants.{Mask, Mode, Clock, Constants, Errors, Part, Table}
-use Rattle.image.specs.Version.{Version, v1, v2, imageLength}
+use Rattle.image.specs.declared.version.Version.{Version}
+use Rattle.image.specs.declared.version.Version.the-variants.{V1, V2}
+use Rattle.image.specs.Version.{imageLength}
 use Rattle.image.specs.Cell.{offset, size, isCell, run, partsFrom, cells, cellsOf, Once, rising, extent}
 use Rattle.image.specs.Words.{Span, words, wordOffset, spanInside, off, inside}
 
@@ -31,8 +33,8 @@ cells-rise = refl
 
 pub cells-inside : (v : Version) → all (inside v) cells ≡ true
 unfolding cells run partsFrom all inside off
-cells-inside v1 = refl
-cells-inside v2 = refl
+cells-inside V1 = refl
+cells-inside V2 = refl
 
 cells-are : all isCell cells ≡ true
 unfolding cells run partsFrom all
@@ -170,8 +172,8 @@ placed v c h =
 
 words-inside : (v : Version) → all (spanInside v) (words v) ≡ true
 unfolding all spanInside
-words-inside v1 = refl
-words-inside v2 = refl
+words-inside V1 = refl
+words-inside V2 = refl
 
 -- every word lies behind mark, version and address, and inside the image
 pub word-inside : (v : Version) (i : ℕ) → InSpans (words v) i → (6 ≤ i) × (i < imageLength v)
@@ -189,8 +191,8 @@ word-inside v i = go (words v) (words-inside v)
 
 -- the words of the tables are among them
 pub table-words : (v : Version) (k : ℕ) → k < 16 → (i : ℕ) → In (wordOffset k) 2 i → InSpans (words v) i
-table-words v1 k l i a = inl (omega arith, omega arith)
-table-words v2 k l i a = inl (omega arith, omega arith)
+table-words V1 k l i a = inl (omega arith, omega arith)
+table-words V2 k l i a = inl (omega arith, omega arith)
 
 -- so each lies inside
 pub table-word-inside : (v : Version) (k : ℕ) → k < 16 → wordOffset k + 2 ≤ imageLength v

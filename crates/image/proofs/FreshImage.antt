@@ -15,13 +15,15 @@ use Rattle.laws.specs.Checks.{judged}
 use Rattle.laws.specs.Bits.{bit, onesIn}
 use Rattle.laws.proofs.Bytes.{length-zeros, length-lay, lay-at, lay-out, lay-is, slice-lay, zeros-at}
 use Rattle.image.specs.declared.cell.Cell.the-variants.{Errors}
-use Rattle.image.specs.Version.{Version, v1, v2, current, versionNumber, imageLength}
+use Rattle.image.specs.declared.version.Version.{Version}
+use Rattle.image.specs.declared.version.Version.the-variants.{V1, V2}
+use Rattle.image.specs.Version.{current, versionNumber, imageLength}
 use Rattle.image.specs.Cell.{isTable, tableIndex, offset}
 use Rattle.image.specs.Words.{tableWord, wordOffset}
 use Rattle.image.specs.Usable.{usable, markOk, addressOk}
 use Rattle.image.specs.Fresh.{fresh}
 use Rattle.image.specs.Held.{missingFrom, lowestMissing, heldOf, heldParts}
-use Rattle.image.proofs.UsableFacts.{usable-of}
+use Rattle.image.proofs.UsableFacts.{least-length, usable-of}
 
 -- ---- cleared from the front
 
@@ -46,10 +48,6 @@ fresh-is z m a h e = rw (e, h) (sym (lay-is _ _ _))
 
 -- ---- its bytes
 
-head-inside : (v : Version) → 6 ≤ imageLength v
-head-inside v1 = omega arith
-head-inside v2 = omega arith
-
 abbrev pub head : Version → ℕ → List ℕ
 head v a = 73 ∷ (90 ∷ (75 ∷ (0 ∷ (versionNumber v ∷ (a ∷ [])))))
 
@@ -60,7 +58,7 @@ module _ (v : Version) (a : ℕ) where
 
   pub head-at : (i : ℕ) → i < 6 → getD (fresh v a) i 0 ≡ getD (head v a) i 0
   unfolding fresh
-  head-at i h = lay-at (zeros (imageLength v)) (head v a) (omega (arith, length-zeros (imageLength v), head-inside v)) i h
+  head-at i h = lay-at (zeros (imageLength v)) (head v a) (omega (arith, length-zeros (imageLength v), least-length v)) i h
 
   pub rest-at : (i : ℕ) → 6 ≤ i → getD (fresh v a) i 0 ≡ 0
   unfolding fresh
@@ -68,7 +66,7 @@ module _ (v : Version) (a : ℕ) where
 
   begins : slice 0 6 (fresh v a) ≡ head v a
   unfolding fresh
-  begins = slice-lay (zeros (imageLength v)) 0 6 (head v a) (omega arith) (omega (arith, length-zeros (imageLength v), head-inside v))
+  begins = slice-lay (zeros (imageLength v)) 0 6 (head v a) (omega arith) (omega (arith, length-zeros (imageLength v), least-length v))
 
   word-none : (k : ℕ) → tableWord (fresh v a) k ≡ 0
   unfolding tableWord wordAt
@@ -103,6 +101,6 @@ module _ (v : Version) (a : ℕ) where
     fresh-holds-none t h = rw (fresh-usable, h, word-none (tableIndex t))
 
 -- the letters IZK, version 1 or 2 in two bytes, and the address
-pub fresh-begins : (a : ℕ) → (slice 0 6 (fresh v1 a) ≡ 73 ∷ (90 ∷ (75 ∷ (0 ∷ (1 ∷ (a ∷ []))))))
-    × (slice 0 6 (fresh v2 a) ≡ 73 ∷ (90 ∷ (75 ∷ (0 ∷ (2 ∷ (a ∷ []))))))
-fresh-begins a = (begins v1 a, begins v2 a)
+pub fresh-begins : (a : ℕ) → (slice 0 6 (fresh V1 a) ≡ 73 ∷ (90 ∷ (75 ∷ (0 ∷ (1 ∷ (a ∷ []))))))
+    × (slice 0 6 (fresh V2 a) ≡ 73 ∷ (90 ∷ (75 ∷ (0 ∷ (2 ∷ (a ∷ []))))))
+fresh-begins a = (begins V1 a, begins V2 a)

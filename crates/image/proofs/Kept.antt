@@ -1,13 +1,13 @@
 -- Which of the 32 signatures a cell's bytes count in, and what an item holds. Assumes nothing.
-use mathlib.Core.Path.{_≡_, refl}
+use mathlib.Core.Path.{_≡_, refl, subst}
 use mathlib.Core.Logic.{_⊎_, inl, inr}
 use mathlib.Core.List.{List, [], _∷_, _++_, map, List·Memᴰ, List·Memᴰ·head, List·Memᴰ·cases-cons, List·Memᴰ·not-nil, List·Memᴰ·eq-of-singleton}
 use mathlib.Core.List.{Memᴰ·append-left, Memᴰ·append-right}
-use mathlib.Core.Bool.{true, cond}
+use mathlib.Core.Bool.{true}
 use Prim.Native.Nat.{ℕ, zero, suc, _+_, _-_, _≤_, _<_}
+use native.Mathlib.Decide.{decLt}
 use native.Mathlib.Omega.{arith}
 use lib.ListN.{length}
-use lib.Dec.{ltb}
 use borrow.Author.Tests.{ltb-true, lt-ltb, le-ltb}
 use Rattle.laws.specs.Checks.{all}
 use Rattle.laws.proofs.Tests.{never, all-of}
@@ -16,8 +16,9 @@ use Rattle.image.specs.declared.cell.Cell.{Cell}
 use Rattle.image.specs.declared.cell.Cell.the-variants.{Mask, Mode, Clock, Constants, Errors, Part, Table}
 use Rattle.image.specs.declared.cell.Signed.{Signed}
 use Rattle.image.specs.declared.cell.Signed.the-variants.{Nowhere, At}
-use Rattle.image.specs.Version.{v2, imageLength}
-use Rattle.image.specs.Cell.{offset, size, isCell, isItem, run, items, cellsOf}
+use Rattle.image.specs.declared.version.Version.the-variants.{V2}
+use Rattle.image.specs.Version.{imageLength}
+use Rattle.image.specs.Cell.{offset, size, isCell, isItem, run, items, itemAt, cellsOf}
 use Rattle.image.specs.Words.{words, keptOffset, signatureWord}
 use Rattle.image.proofs.Cells.{InSpans, run-mem, part-numbers}
 
@@ -56,13 +57,13 @@ items-listed (Errors e) h =
 items-listed (Part k p) h = absurd (never h)
 items-listed (Table k) h = Memᴰ·append-left (run Constants 0 8 ++ run Errors 0 8) (run-mem Table k 0 16 (omega arith) (omega (arith, ltb-true k 16 h)))
 
--- the i-th of them
-unfoldable pub itemAt : ℕ → Cell
-itemAt i = cond (ltb i 16) (Table i) (cond (ltb i 24) (Constants (i - 16)) (Errors (i - 24)))
-
+-- counted from 0
 pub items-at : run itemAt 0 32 ≡ items
 unfolding itemAt items run
 items-at = refl
+
+pub item-is : (i : ℕ) → i < 32 → isItem (itemAt i) ≡ true
+item-is i l = items-are {e = itemAt i} (rw (← items-at) (run-mem itemAt i 0 32 (omega arith) (omega arith)))
 
 at-constants : (c : ℕ) → c < 8 → itemAt (16 + c) ≡ Constants c
 unfolding itemAt
@@ -79,6 +80,19 @@ at-errors e l =
 at-table : (k : ℕ) → k < 16 → itemAt k ≡ Table k
 unfolding itemAt
 at-table k l = rw (lt-ltb k 16 l)
+
+-- the word of the i-th is the i-th
+pub item-word : (i : ℕ) → i < 32 → signatureWord (itemAt i) ≡ At (keptOffset i)
+item-word i l = go (decLt i 16) (decLt i 24)
+  where
+    go : Dec (i < 16) → Dec (i < 24) → signatureWord (itemAt i) ≡ At (keptOffset i)
+    go (yes a) b = rw (at-table i a)
+    go (no a) (yes b) =
+        let e : 16 + (i - 16) ≡ i = omega arith in
+        subst (λ (j : ℕ). signatureWord (itemAt j) ≡ At (keptOffset j)) e (rw (at-constants (i - 16) (omega arith)))
+    go (no a) (no b) =
+        let e : 24 + (i - 24) ≡ i = omega arith in
+        subst (λ (j : ℕ). signatureWord (itemAt j) ≡ At (keptOffset j)) e (rw (at-errors (i - 24) (omega arith)))
 
 -- ---- a cell or an item counts nowhere, or in the i-th
 
@@ -112,7 +126,7 @@ counts-view (Part k p) =
 counts-view (Table k) = in-word k (record { held = λ h. absurd (never h); is = λ h. let l = ltb-true k 16 h in (omega arith, at-table k l) })
 
 -- its word is one of the version's
-pub kept-words : (i : ℕ) → i < 32 → (j : ℕ) → In (keptOffset i) 2 j → InSpans (words v2) j
+pub kept-words : (i : ℕ) → i < 32 → (j : ℕ) → In (keptOffset i) 2 j → InSpans (words V2) j
 kept-words i l j a = inr (inl (omega arith, omega arith))
 
 -- and lies inside an image
@@ -120,10 +134,10 @@ abbrev pub place : Signed → ℕ
 place Nowhere = 0
 place (At o) = o
 
-pub place-inside : (d : Cell) → (isCell d ≡ true) ⊎ (isItem d ≡ true) → place (signatureWord d) + 2 ≤ imageLength v2
+pub place-inside : (d : Cell) → (isCell d ≡ true) ⊎ (isItem d ≡ true) → place (signatureWord d) + 2 ≤ imageLength V2
 place-inside d h = go (counts-view d) h
   where
-    go : {x : Signed} → Counts d x → (isCell d ≡ true) ⊎ (isItem d ≡ true) → place x + 2 ≤ imageLength v2
+    go : {x : Signed} → Counts d x → (isCell d ≡ true) ⊎ (isItem d ≡ true) → place x + 2 ≤ imageLength V2
     go (nowhere a) h = omega arith
     go (in-word i a) (inl h) = omega (arith, a .held h .0)
     go (in-word i a) (inr h) = omega (arith, a .is h .0)

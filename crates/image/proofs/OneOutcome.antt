@@ -3,12 +3,12 @@ use mathlib.Core.Path.{_≡_, sym, _∙_}
 use mathlib.Core.List.{List}
 use Prim.Native.Nat.{ℕ}
 use Rattle.image.specs.declared.held.Held.{Held}
-use Rattle.image.specs.Version.{Version}
-use Rattle.image.specs.Fresh.{FreshAfter, Freshens}
+use Rattle.image.specs.declared.version.Version.{Version}
+use Rattle.image.specs.Made.{ImageAfter, Makes}
 use Rattle.image.specs.Held.{heldParts}
 
-pub freshens-one-outcome : (l : FreshAfter) (r s : ℕ) (m n : List ℕ) → Freshens l r m → Freshens l s n → (r ≡ s) × (m ≡ n)
-freshens-one-outcome l r s m n a b = (a .number-is ∙ sym (b .number-is), a .image-is ∙ sym (b .image-is))
+pub makes-one-outcome : (l : ImageAfter) (r s : ℕ) (m n : List ℕ) → Makes l r m → Makes l s n → (r ≡ s) × (m ≡ n)
+makes-one-outcome l r s m n a b = (a .number-is ∙ sym (b .number-is), a .image-is ∙ sym (b .image-is))
 
 pub held-one-outcome : (v : Version) (m : List ℕ) (t : ℕ) (r s : Held) → r ≡ heldParts v m t → s ≡ heldParts v m t → r ≡ s
 held-one-outcome v m t r s a b = a ∙ sym b

@@ -9,7 +9,9 @@ use Rattle.laws.specs.Checks.{all}
 use Rattle.laws.proofs.Tests.{never}
 use Rattle.image.specs.declared.cell.Cell.{Cell}
 use Rattle.image.specs.declared.cell.Cell.the-variants.{Mask, Mode, Clock, Constants, Errors, Part, Table}
-use Rattle.image.specs.Version.{Version, v1, imageLength}
+use Rattle.image.specs.declared.version.Version.{Version}
+use Rattle.image.specs.declared.version.Version.the-variants.{V1}
+use Rattle.image.specs.Version.{imageLength}
 use Rattle.image.specs.Cell.{offset, size, isCell, isItem, run, cellsOf}
 use Rattle.image.proofs.Cells.{placed}
 
@@ -66,5 +68,5 @@ pub item-low : (d : Cell) → isItem d ≡ true → 6 ≤ offset d
 item-low d h = go (stretch-view d)
   where
     go : Stretch d → 6 ≤ offset d
-    go (single e f) = placed v1 d (f h) .low
+    go (single e f) = placed V1 d (f h) .low
     go (whole k e) = rw e (omega arith)

@@ -9,10 +9,17 @@ use borrow.Author.Tests.{leb-true, le-leb, eqb-true, eq-eqb}
 use Rattle.laws.specs.Bytes.{wordAt}
 use Rattle.laws.proofs.Tests.{and-both, every-at, every-of, every-same}
 use Rattle.image.specs.declared.cell.Cell.the-variants.{Errors, Table}
-use Rattle.image.specs.Version.{Version, v1, v2, versionNumber, imageLength}
+use Rattle.image.specs.declared.version.Version.{Version}
+use Rattle.image.specs.declared.version.Version.the-variants.{V1, V2}
+use Rattle.image.specs.Version.{versionNumber, imageLength}
 use Rattle.image.specs.Cell.{offset}
 use Rattle.image.specs.Words.{tableWord, wordOffset}
 use Rattle.image.specs.Usable.{countOk, wordOk, usable, markOk, addressOk, address}
+
+-- every version has the bytes that version 1 has
+pub least-length : (v : Version) → imageLength V1 ≤ imageLength v
+least-length V1 = omega arith
+least-length V2 = omega arith
 
 pub record Usable (v : Version) (m : List ℕ) : Type 0 where
   pub long-is : length m ≡ imageLength v
@@ -69,9 +76,9 @@ usable-same v m m′ long h =
 abbrev pub Begins : ℕ → List ℕ → Type 0
 Begins n m = (getD m 0 0 ≡ 73) × (getD m 1 0 ≡ 90) × (getD m 2 0 ≡ 75) × (getD m 3 0 ≡ 0) × (getD m 4 0 ≡ n)
 
-begins : (v : Version) (m : List ℕ) → usable v m ≡ true → (length m ≡ imageLength v) × Begins (versionNumber v) m
+pub begins-as : (v : Version) (m : List ℕ) → usable v m ≡ true → (length m ≡ imageLength v) × Begins (versionNumber v) m
 unfolding markOk
-begins v m u =
+begins-as v m u =
     let f = facts v m u in
     let p = and-both _ _ (f .mark) in
     let q = and-both _ _ (p .1) in
@@ -80,5 +87,5 @@ begins v m u =
     (f .long-is, (eqb-true _ _ (p .0), eqb-true _ _ (q .0), eqb-true _ _ (r .0), eqb-true _ _ (s .0), eqb-true _ _ (s .1)))
 
 -- so no other number and no other length is usable
-pub usable-begins : (m : List ℕ) → (usable v1 m ≡ true → (length m ≡ 23753) × Begins 1 m) × (usable v2 m ≡ true → (length m ≡ 23817) × Begins 2 m)
-usable-begins m = (begins v1 m, begins v2 m)
+pub usable-begins : (m : List ℕ) → (usable V1 m ≡ true → (length m ≡ 23753) × Begins 1 m) × (usable V2 m ≡ true → (length m ≡ 23817) × Begins 2 m)
+usable-begins m = (begins-as V1 m, begins-as V2 m)

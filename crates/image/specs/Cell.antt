@@ -80,6 +80,10 @@ cells = Mask ∷ (Mode ∷ (Clock ∷ (run Constants 0 8 ++ (run Errors 0 8 ++ p
 unfoldable pub items : List Cell
 items = run Table 0 16 ++ (run Constants 0 8 ++ run Errors 0 8)
 
+-- the i-th of them, from 0
+unfoldable pub itemAt : ℕ → Cell
+itemAt i = cond (ltb i 16) (Table i) (cond (ltb i 24) (Constants (i - 16)) (Errors (i - 24)))
+
 -- the cells that a stretch is made of
 abbrev pub cellsOf : Cell → List Cell
 cellsOf Mask = Mask ∷ []

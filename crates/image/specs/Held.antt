@@ -6,7 +6,7 @@ use lib.Dec.{eqb}
 use Rattle.laws.specs.Checks.{Check, check, judged}
 use Rattle.laws.specs.Bits.{bit, onesIn}
 use Rattle.image.specs.declared.held.Held.{Held}
-use Rattle.image.specs.Version.{Version}
+use Rattle.image.specs.declared.version.Version.{Version}
 use Rattle.image.specs.Cell.{isTable, tableIndex}
 use Rattle.image.specs.Words.{tableWord}
 use Rattle.image.specs.Usable.{usable}

@@ -2,5 +2,6 @@ pub mod Version
 pub mod Cell
 pub mod Words
 pub mod Usable
+pub mod Made
 pub mod Fresh
 pub mod Held

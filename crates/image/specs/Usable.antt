@@ -6,7 +6,8 @@ use lib.ListN.{length, getD}
 use lib.Dec.{leb, eqb}
 use Rattle.laws.specs.Checks.{every}
 use Rattle.image.specs.declared.cell.Cell.the-variants.{Errors}
-use Rattle.image.specs.Version.{Version, versionNumber, imageLength}
+use Rattle.image.specs.declared.version.Version.{Version}
+use Rattle.image.specs.Version.{versionNumber, imageLength}
 use Rattle.image.specs.Cell.{offset}
 use Rattle.image.specs.Words.{tableWord}
 

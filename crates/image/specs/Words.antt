@@ -10,7 +10,9 @@ use Rattle.image.specs.declared.cell.Cell.{Cell}
 use Rattle.image.specs.declared.cell.Cell.the-variants.{Mask, Mode, Clock, Constants, Errors, Part, Table}
 use Rattle.image.specs.declared.cell.Signed.{Signed}
 use Rattle.image.specs.declared.cell.Signed.the-variants.{Nowhere, At}
-use Rattle.image.specs.Version.{Version, v1, v2, imageLength}
+use Rattle.image.specs.declared.version.Version.{Version}
+use Rattle.image.specs.declared.version.Version.the-variants.{V1, V2}
+use Rattle.image.specs.Version.{imageLength}
 use Rattle.image.specs.Cell.{offset, size}
 
 -- a number of bytes from an offset on
@@ -38,8 +40,8 @@ signatureWord (Table k) = At (keptOffset k)
 
 -- all words of a version; none of them lies in a cell. Those of the sixteen tables, two bytes each, and in version 2 those of the 32 signatures
 abbrev pub words : Version → List Span
-words v1 = record { from = wordOffset 0; count = 32 } ∷ []
-words v2 = record { from = wordOffset 0; count = 32 } ∷ (record { from = keptOffset 0; count = 64 } ∷ [])
+words V1 = record { from = wordOffset 0; count = 32 } ∷ []
+words V2 = record { from = wordOffset 0; count = 32 } ∷ (record { from = keptOffset 0; count = 64 } ∷ [])
 
 unfoldable pub tableWord : List ℕ → ℕ → ℕ
 tableWord m k = wordAt m (wordOffset k)

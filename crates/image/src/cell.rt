@@ -2,7 +2,7 @@
 ghost use mathlib.Core.Path.{_≡_};
 ghost use mathlib.Core.Bool.{cond};
 ghost use Prim.Native.Nat.{_+_, _*_, _≤_};
-ghost use Rattle.image.specs.Cell.{offset, size, constantsNamed, errorsNamed, isTable, tableIndex, tableNamed, partNamed};
+ghost use Rattle.image.specs.Cell.{offset, size, constantsNamed, errorsNamed, isTable, tableIndex, tableNamed, partNamed, itemAt};
 ghost use Rattle.image.specs.Words.{signatureWord};
 
 // What a command works on: one of the 195 cells, or all eleven parts of a table at once, of which only its signature speaks. Inside, numbers
@@ -126,6 +126,20 @@ impl Cell {
         match part {
             1..=11 => Named::Cell(Cell::Part(k, part - 1)),
             _ => Named::Nothing,
+        }
+    }
+
+    // The i-th of the 32 items that have a signature, from 0, in the order in which these are kept.
+    pub fn item(i: u8) -> Cell
+        ensures { λ r. ⌜ r ≡ itemAt i ⌝ }
+    {
+        if i < 16 {
+            return Cell::Table(i);
+        }
+        if i < 24 {
+            Cell::Constants(i - 16)
+        } else {
+            Cell::Errors(i - 24)
         }
     }
 

@@ -1,12 +1,13 @@
 // Making a lent buffer a fresh image.
 use crate::version::ADDRESS_OFFSET;
 use crate::version::IMAGE_LENGTH;
-use crate::version::VERSION;
+use crate::version::Version;
 ghost use mathlib.Core.Path.{_≡_};
 ghost use lib.ListN.{length};
 ghost use Rattle.laws.specs.Bytes.{zeros};
 ghost use Rattle.image.specs.Version.{current};
-ghost use Rattle.image.specs.Fresh.{freshened, Freshens};
+ghost use Rattle.image.specs.Made.{Makes};
+ghost use Rattle.image.specs.Fresh.{freshened};
 
 fn clear(m: &mut [u8])
     ensures { λ _. ⌜ now (m .exit) ≡ zeros (length (now (m .entry))) ⌝ }
@@ -20,7 +21,7 @@ fn clear(m: &mut [u8])
 
 // Its refusals are 1 and 11, in this order.
 pub fn freshen(m: &mut [u8], address: u8) -> u8
-    ensures { λ r. ⌜ Freshens (freshened current (now (m .entry)) address) r (now (m .exit)) ⌝ }
+    ensures { λ r. ⌜ Makes (freshened current (now (m .entry)) address) r (now (m .exit)) ⌝ }
 {
     if m.len() != IMAGE_LENGTH {
         return 1;
@@ -33,7 +34,7 @@ pub fn freshen(m: &mut [u8], address: u8) -> u8
     m[1] = 90;
     m[2] = 75;
     m[3] = 0;
-    m[4] = VERSION;
+    m[4] = Version::CURRENT.number();
     m[ADDRESS_OFFSET] = address;
     0
 }

@@ -2,6 +2,7 @@
 use crate::cell::Cell;
 use crate::cell::table_index;
 use crate::usable::is_usable;
+use crate::version::Version;
 use crate::word::word_at;
 ghost use mathlib.Core.Path.{_≡_};
 ghost use Prim.Native.Nat.{_<_};
@@ -53,7 +54,7 @@ fn held_of(w: u16) -> Held
 pub fn held_parts(m: &[u8], table: u32) -> Held
     ensures { λ r. ⌜ r ≡ heldParts current (now (m .entry)) table ⌝ }
 {
-    if !is_usable(m) {
+    if !is_usable(m, Version::CURRENT) {
         return unheld(1);
     }
     let k = table_index(table);

@@ -15,7 +15,7 @@ pub use held::held_parts;
 pub use usable::is_usable;
 pub use version::ADDRESS_OFFSET;
 pub use version::IMAGE_LENGTH;
-pub use version::VERSION;
+pub use version::Version;
 pub use word::has_bit;
 pub use word::put_word;
 pub use word::set_bit;

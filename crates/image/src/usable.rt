@@ -1,19 +1,18 @@
 // When an image is usable. A byte that no rule names is not judged.
 use crate::cell::Cell;
 use crate::version::ADDRESS_OFFSET;
-use crate::version::IMAGE_LENGTH;
-use crate::version::VERSION;
+use crate::version::Version;
 use crate::word::word_at;
 ghost use mathlib.Core.Path.{_≡_};
+ghost use Prim.Native.Nat.{_≤_};
 ghost use lib.ListN.{length};
 ghost use Rattle.laws.specs.Checks.{every};
-ghost use Rattle.image.specs.Version.{current, imageLength};
 ghost use Rattle.image.specs.Usable.{markOk, countOk, wordOk, usable};
 
 // The letters IZK, and the version.
-fn mark_ok(m: &[u8]) -> bool
-    requires { ⌜ length (now m) ≡ imageLength current ⌝ }
-    ensures { λ r. ⌜ r ≡ markOk current (now (m .entry)) ⌝ }
+fn mark_ok(m: &[u8], version: Version) -> bool
+    requires { ⌜ 5 ≤ length (now m) ⌝ }
+    ensures { λ r. ⌜ r ≡ markOk version (now (m .entry)) ⌝ }
 {
     if m[0] != 73 {
         return false;
@@ -27,11 +26,11 @@ fn mark_ok(m: &[u8]) -> bool
     if m[3] != 0 {
         return false;
     }
-    m[4] == VERSION
+    m[4] == version.number()
 }
 
 fn counts_ok(m: &[u8]) -> bool
-    requires { ⌜ length (now m) ≡ imageLength current ⌝ }
+    requires { ⌜ 1225 ≤ length (now m) ⌝ }
     ensures { λ r. ⌜ r ≡ every (countOk (now (m .entry))) 8 ⌝ }
 {
     for e in 0..8usize {
@@ -43,7 +42,7 @@ fn counts_ok(m: &[u8]) -> bool
 }
 
 fn words_ok(m: &[u8]) -> bool
-    requires { ⌜ length (now m) ≡ imageLength current ⌝ }
+    requires { ⌜ 49 ≤ length (now m) ⌝ }
     ensures { λ r. ⌜ r ≡ every (wordOk (now (m .entry))) 16 ⌝ }
 {
     for k in 0..16usize {
@@ -55,13 +54,13 @@ fn words_ok(m: &[u8]) -> bool
     true
 }
 
-pub fn is_usable(m: &[u8]) -> bool
-    ensures { λ r. ⌜ r ≡ usable current (now (m .entry)) ⌝ }
+pub fn is_usable(m: &[u8], version: Version) -> bool
+    ensures { λ r. ⌜ r ≡ usable version (now (m .entry)) ⌝ }
 {
-    if m.len() != IMAGE_LENGTH {
+    if m.len() != version.length() {
         return false;
     }
-    if !mark_ok(m) {
+    if !mark_ok(m, version) {
         return false;
     }
     if m[ADDRESS_OFFSET] == 0 {

@@ -14,7 +14,8 @@ use Rattle.frame.proofs.Capitals.{capital-contents, capital-checks}
 use Rattle.frame.proofs.Passing.{contents-bytes}
 use Rattle.frame.proofs.RoundTrip.{frame-in-capitals}
 use Rattle.image.specs.declared.cell.Cell.{Cell}
-use Rattle.image.specs.Version.{Version, current}
+use Rattle.image.specs.declared.version.Version.{Version}
+use Rattle.image.specs.Version.{current}
 use Rattle.image.specs.Usable.{address}
 use Rattle.storing.specs.Signature.{signature}
 use Rattle.storing.proofs.Signatures.{signature-word}

@@ -11,7 +11,8 @@ use Rattle.laws.specs.Bits.{bit, onesIn}
 use Rattle.laws.proofs.Bits.{ones-with}
 use Rattle.frame.specs.Apart.{contentsOf}
 use Rattle.image.specs.declared.cell.Cell.the-variants.{Part}
-use Rattle.image.specs.Version.{Version, imageLength}
+use Rattle.image.specs.declared.version.Version.{Version}
+use Rattle.image.specs.Version.{imageLength}
 use Rattle.image.specs.Cell.{isTable, tableIndex}
 use Rattle.image.specs.Words.{tableWord}
 use Rattle.image.specs.Usable.{usable, address}

@@ -14,7 +14,7 @@ use Rattle.laws.proofs.Tests.{and-both, never}
 use Rattle.frame.specs.Apart.{contentsOf}
 use Rattle.image.specs.declared.cell.Cell.{Cell}
 use Rattle.image.specs.declared.cell.Cell.the-variants.{Part}
-use Rattle.image.specs.Version.{Version}
+use Rattle.image.specs.declared.version.Version.{Version}
 use Rattle.image.specs.Cell.{isTable, tableIndex}
 use Rattle.image.specs.Words.{tableWord}
 use Rattle.image.specs.Usable.{usable, address}

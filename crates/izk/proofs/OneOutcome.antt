@@ -9,9 +9,10 @@ use Rattle.frame.specs.Apart.{apart}
 use Rattle.frame.specs.Built.{built}
 use Rattle.image.specs.declared.held.Held.{Held}
 use Rattle.image.specs.Version.{current}
-use Rattle.image.specs.Fresh.{Freshens, freshened}
+use Rattle.image.specs.Made.{Makes}
+use Rattle.image.specs.Fresh.{freshened}
 use Rattle.image.specs.Held.{heldParts}
-use Rattle.image.proofs.OneOutcome.{freshens-one-outcome, held-one-outcome}
+use Rattle.image.proofs.OneOutcome.{makes-one-outcome, held-one-outcome}
 use Rattle.rules.specs.declared.switch.Switch.{Switch}
 use Rattle.command.specs.Reply.{Serves}
 use Rattle.izk.specs.Heard.{heard}
@@ -32,9 +33,9 @@ take-apart-one-outcome f out = one-outcome (apart f out)
 pub build-one-outcome : (c out : List ℕ) (r s : Answer) (o p : List ℕ) → Does (built c out) r o → Does (built c out) s p → (r ≡ s) × (o ≡ p)
 build-one-outcome c out = one-outcome (built c out)
 
-pub fresh-one-outcome : (m : List ℕ) (a r s : ℕ) (m′ m″ : List ℕ) → Freshens (freshened current m a) r m′ → Freshens (freshened current m a) s m″
+pub fresh-one-outcome : (m : List ℕ) (a r s : ℕ) (m′ m″ : List ℕ) → Makes (freshened current m a) r m′ → Makes (freshened current m a) s m″
     → (r ≡ s) × (m′ ≡ m″)
-fresh-one-outcome m a = freshens-one-outcome (freshened current m a)
+fresh-one-outcome m a = makes-one-outcome (freshened current m a)
 
 pub held-parts-one-outcome : (m : List ℕ) (t : ℕ) (r s : Held) → r ≡ heldParts current m t → s ≡ heldParts current m t → r ≡ s
 held-parts-one-outcome m t r s = held-one-outcome current m t r s

@@ -14,7 +14,7 @@ use Rattle.frame.specs.Built.{frameOf}
 use Rattle.image.specs.declared.cell.Cell.{Cell}
 use Rattle.image.specs.declared.cell.Cell.the-variants as Cells
 use Rattle.image.specs.declared.cell.Named.the-variants as Named′
-use Rattle.image.specs.Version.{Version}
+use Rattle.image.specs.declared.version.Version.{Version}
 use Rattle.image.specs.Cell.{offset, extent, when, errorsNamed}
 use Rattle.image.specs.Usable.{usable, address}
 use Rattle.image.proofs.UsableFacts.{facts}

@@ -16,9 +16,11 @@ use Rattle.output.specs.Output.{OutputAfter, refuse, written}
 use Rattle.frame.specs.Apart.{contentsOf, frameChecks, apartChecks, apart}
 use Rattle.frame.specs.Built.{frameOf, buildChecks, built}
 use Rattle.image.specs.declared.held.Held.{Held}
-use Rattle.image.specs.Version.{Version, current}
+use Rattle.image.specs.declared.version.Version.{Version}
+use Rattle.image.specs.Version.{current}
 use Rattle.image.specs.Usable.{usable, address}
-use Rattle.image.specs.Fresh.{FreshAfter, unfresh, freshChecks, freshened}
+use Rattle.image.specs.Made.{ImageAfter, unmade}
+use Rattle.image.specs.Fresh.{freshChecks, freshened}
 use Rattle.image.specs.Held.{unheld, heldOf, heldChecks, heldParts}
 use Rattle.rules.specs.declared.switch.Switch.{Switch}
 use Rattle.rules.specs.declared.switch.Switch.the-variants.{Unsealed, Sealed}
@@ -65,7 +67,7 @@ build-gives c out = judged-gives (λ (a : OutputAfter). a .number) (refuse out) 
 
 pub fresh-gives : (v : Version) (m : List ℕ) (a : ℕ) → Gives (freshChecks v m a) (freshened v m a .number)
 unfolding freshened
-fresh-gives v m a = judged-gives (λ (x : FreshAfter). x .number) (unfresh m) (freshChecks v m a) _ (λ n. refl) (λ p. refl)
+fresh-gives v m a = judged-gives (λ (x : ImageAfter). x .number) (unmade m) (freshChecks v m a) _ (λ n. refl) (λ p. refl)
 
 pub held-gives : (v : Version) (m : List ℕ) (t : ℕ) → Gives (heldChecks v m t) (heldParts v m t .number)
 unfolding heldParts heldOf
@@ -219,7 +221,7 @@ refused-build c out =
 pub refused-fresh : (v : Version) (m : List ℕ) (a : ℕ) → freshened v m a .number ≢ 0 → freshened v m a .image ≡ m
 unfolding freshened
 refused-fresh v m a =
-    judged-refused (λ (x : FreshAfter). x .number) (unfresh m) (freshChecks v m a) _ (λ x. x .image ≡ m) (λ n. refl) (λ z. absurd (z refl))
+    judged-refused (λ (x : ImageAfter). x .number) (unmade m) (freshChecks v m a) _ (λ x. x .image ≡ m) (λ n. refl) (λ z. absurd (z refl))
 
 -- the held-parts question lends nothing to write, and reports two zeros
 pub refused-held : (v : Version) (m : List ℕ) (t : ℕ) → heldParts v m t .number ≢ 0 → (heldParts v m t .parts ≡ 0) × (heldParts v m t .missing ≡ 0)

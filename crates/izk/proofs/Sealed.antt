@@ -12,7 +12,7 @@ use Rattle.laws.proofs.Tests.{never}
 use Rattle.laws.proofs.Checks.{judged-passed, judged-either}
 use Rattle.frame.specs.Apart.{contentsOf, frameChecks}
 use Rattle.image.specs.declared.cell.Cell.{Cell}
-use Rattle.image.specs.Version.{Version}
+use Rattle.image.specs.declared.version.Version.{Version}
 use Rattle.image.specs.Usable.{usable, address}
 use Rattle.rules.specs.declared.rule.Act.{Act}
 use Rattle.rules.specs.declared.rule.Act.the-variants.{Show, Sign, Store}

@@ -4,7 +4,8 @@ use mathlib.Core.Logic.{_≢_}
 use mathlib.Core.List.{List, [], _∷_, List·Memᴰ, List·Memᴰ·head, List·Memᴰ·tail}
 use Prim.Native.Nat.{ℕ}
 use Rattle.output.specs.declared.answer.Answer.{Answer}
-use Rattle.image.specs.Version.{Version, current}
+use Rattle.image.specs.declared.version.Version.{Version}
+use Rattle.image.specs.Version.{current}
 use Rattle.rules.specs.declared.switch.Switch.{Switch}
 use Rattle.rules.specs.declared.switch.Switch.the-variants.{Unsealed, Sealed}
 use Rattle.command.specs.Reply.{Serves}

@@ -15,7 +15,7 @@ use Rattle.laws.proofs.Bytes.{lay-take, lay-rest}
 use Rattle.frame.specs.Apart.{contentsOf}
 use Rattle.frame.proofs.FrameLaid.{length-frame}
 use Rattle.image.specs.declared.cell.Cell.{Cell}
-use Rattle.image.specs.Version.{Version}
+use Rattle.image.specs.declared.version.Version.{Version}
 use Rattle.image.specs.Usable.{usable, address}
 use Rattle.image.proofs.UsableFacts.{Usable, facts, usable-of}
 use Rattle.storing.proofs.Stores.{head-stays, store-usable}

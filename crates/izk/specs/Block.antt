@@ -5,7 +5,7 @@ use Prim.Native.Nat.{ℕ}
 use lib.ListN.{length}
 use lib.Dec.{leb}
 use Rattle.laws.specs.Checks.{check, judged}
-use Rattle.image.specs.Version.{Version}
+use Rattle.image.specs.declared.version.Version.{Version}
 use Rattle.image.specs.Usable.{usable}
 use Rattle.command.specs.Reply.{refusal, BuffersAfter, sent}
 use Rattle.izk.specs.Heard.{Hearing, answered}

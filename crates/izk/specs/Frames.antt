@@ -10,7 +10,7 @@ use lib.Dec.{eqb}
 use Rattle.laws.specs.Bytes.{zeros, codes}
 use Rattle.laws.specs.Checks.{same}
 use Rattle.reorder.specs.Reorder.{final}
-use Rattle.image.specs.Version.{Version}
+use Rattle.image.specs.declared.version.Version.{Version}
 use Rattle.image.specs.Fresh.{fresh}
 use Rattle.rules.specs.declared.switch.Switch.the-variants.{Unsealed}
 use Rattle.command.specs.Reply.{BuffersAfter, replyIn}

@@ -6,7 +6,7 @@ use Prim.Native.Nat.{ℕ}
 use Rattle.laws.specs.Checks.{judged}
 use Rattle.frame.specs.Apart.{contentsOf, frameChecks}
 use Rattle.image.specs.declared.cell.Cell.{Cell}
-use Rattle.image.specs.Version.{Version}
+use Rattle.image.specs.declared.version.Version.{Version}
 use Rattle.image.specs.Usable.{address}
 use Rattle.rules.specs.declared.rule.Act.{Act}
 use Rattle.rules.specs.declared.rule.Found.the-variants as Found′

@@ -8,7 +8,7 @@ use lib.Dec.{leb, eqb}
 use Rattle.laws.specs.Checks.{Check, check}
 use Rattle.frame.specs.Digits.{allDigits}
 use Rattle.frame.specs.Apart.{lengthOk, endsOk, inner, contentsOf, sumOk}
-use Rattle.image.specs.Version.{Version}
+use Rattle.image.specs.declared.version.Version.{Version}
 use Rattle.image.specs.Usable.{usable, address}
 use Rattle.rules.specs.declared.switch.Switch.{Switch}
 use Rattle.rules.specs.Rules.{byte}

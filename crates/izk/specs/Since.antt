@@ -6,7 +6,7 @@ use Prim.Native.Nat.{ℕ, zero, suc, _+_}
 use lib.Dec.{eqb}
 use Rattle.reorder.specs.Reorder.{final}
 use Rattle.frame.specs.Apart.{contentsOf}
-use Rattle.image.specs.Version.{Version}
+use Rattle.image.specs.declared.version.Version.{Version}
 use Rattle.rules.specs.declared.switch.Switch.{Switch}
 use Rattle.rules.specs.Rules.{byte}
 use Rattle.command.specs.Reply.{BuffersAfter}

@@ -1,6 +1,7 @@
 // The block as the customer sees it: five functions, each of which takes every input and says, for every input, all that it returns and
 // leaves. A frame, an image and an output are lent; lengths are those of the whole lent slice. The numbers are document 01's, and 16 document 02's.
 use image::Held;
+use image::Version;
 use output::Answer;
 use rules::Switch;
 ghost use mathlib.Core.Path.{_≡_};
@@ -8,7 +9,8 @@ ghost use Rattle.output.specs.Output.{Does};
 ghost use Rattle.frame.specs.Apart.{apart};
 ghost use Rattle.frame.specs.Built.{built};
 ghost use Rattle.image.specs.Version.{current};
-ghost use Rattle.image.specs.Fresh.{freshened, Freshens};
+ghost use Rattle.image.specs.Made.{Makes};
+ghost use Rattle.image.specs.Fresh.{freshened};
 ghost use Rattle.image.specs.Held.{heldParts};
 ghost use Rattle.command.specs.Reply.{Serves};
 ghost use Rattle.izk.specs.Heard.{heard};
@@ -20,7 +22,7 @@ pub fn serve(frame: &[u8], switch: Switch, m: &mut [u8], out: &mut [u8]) -> Answ
     ensures { λ r. ⌜ Serves (served (heard switch) current (now (frame .entry)) (now (m .entry)) (now (out .entry)))
         r (now (m .exit)) (now (out .exit)) ⌝ }
 {
-    if !image::is_usable(m) {
+    if !image::is_usable(m, Version::CURRENT) {
         return Answer { number: 1, len: 0 };
     }
     if out.len() < 269 {
@@ -54,7 +56,7 @@ pub fn build(contents: &[u8], out: &mut [u8]) -> Answer
 
 // Makes a buffer a fresh image of an address, and answers with its number alone. Refuses 1, then 11.
 pub fn fresh(m: &mut [u8], address: u8) -> u8
-    ensures { λ r. ⌜ Freshens (freshened current (now (m .entry)) address) r (now (m .exit)) ⌝ }
+    ensures { λ r. ⌜ Makes (freshened current (now (m .entry)) address) r (now (m .exit)) ⌝ }
 {
     image::freshen(m, address)
 }

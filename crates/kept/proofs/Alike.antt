@@ -17,7 +17,9 @@ use Rattle.frame.specs.Apart.{contentsOf}
 use Rattle.frame.specs.Built.{frameOf}
 use Rattle.image.specs.declared.cell.Cell.{Cell}
 use Rattle.image.specs.declared.cell.Signed.{Signed}
-use Rattle.image.specs.Version.{Version, v1, v2, imageLength}
+use Rattle.image.specs.declared.version.Version.{Version}
+use Rattle.image.specs.declared.version.Version.the-variants.{V1, V2}
+use Rattle.image.specs.Version.{imageLength}
 use Rattle.image.specs.Cell.{offset, size, extent, isCell, isItem}
 use Rattle.image.specs.Words.{wordOffset, signatureWord}
 use Rattle.image.specs.Usable.{usable, address, addressOk}
@@ -27,7 +29,7 @@ use Rattle.image.proofs.UsableFacts.{facts}
 use Rattle.image.proofs.FreshImage.{head-at, rest-at, fresh-usable}
 use Rattle.image.proofs.Stretches.{item-inside, item-low}
 use Rattle.image.proofs.Kept.{Counts, nowhere, in-word, counts-view}
-use Rattle.storing.specs.Signature.{fullSum}
+use Rattle.storing.specs.Signature.{fullSum, TrueWords}
 use Rattle.storing.specs.Stored.{Touch, touchedAll, bits, amending, stored, FitStore}
 use Rattle.storing.proofs.Touches.{Own, touched-byte, touched-length, Bit, no-bit, part-bit, bit-view, amend-first}
 use Rattle.storing.proofs.Elsewhere.{extent-fits}
@@ -38,17 +40,17 @@ use Rattle.rules.specs.declared.verdict.Verdict.{Verdict}
 use Rattle.rules.specs.declared.verdict.Verdict.the-variants.{Refused, Accepted}
 use Rattle.rules.specs.Fits.{Fit, FitVerdict}
 use Rattle.command.specs.Act.{says, leaves}
-use Rattle.command.specs.Reply.{done}
+use Rattle.command.specs.Reply.{refusal, done, BuffersAfter, sent}
 use Rattle.izk.specs.Heard.{heard, answered, Hearing, Lawful}
 use Rattle.izk.specs.Since.{Turn, inTurn}
 use Rattle.izk.proofs.Hearing.{heard-lawful}
 use Rattle.izk.proofs.Serving.{unusable-is-1, served-is, no-room-is-2, usable-stays}
-use Rattle.kept.specs.Same.{Common, Same, asked}
+use Rattle.kept.specs.Same.{Common, Like, Same, AsksTrue, told, asked}
 use Rattle.kept.proofs.Truth.{fresh-true, call-true}
 
 -- ---- bytes in common
 
-module _ (m n : List ℕ) (long : imageLength v1 ≤ length m) (long′ : imageLength v1 ≤ length n) (same : Common m n) where
+module _ (m n : List ℕ) (long : imageLength V1 ≤ length m) (long′ : imageLength V1 ≤ length n) (same : Common m n) where
   common-lay : (a : ℕ) (bs : List ℕ) → Common (lay m a bs) (lay n a bs)
   common-lay a bs i low high = go (Dec·and (decLe a i) (decLt i (a + length bs)))
     where
@@ -58,7 +60,7 @@ module _ (m n : List ℕ) (long : imageLength v1 ≤ length m) (long′ : imageL
           rw (← j) (lay-in m a bs (i - a) (omega arith) (omega arith) ∙ sym (lay-in n a bs (i - a) (omega arith) (omega arith)))
       go (no p) = lay-out m a bs i p ∙ same i low high ∙ sym (lay-out n a bs i p)
 
-  common-slice : (a k : ℕ) → 5 ≤ a → a + k ≤ imageLength v1 → slice a k m ≡ slice a k n
+  common-slice : (a k : ℕ) → 5 ≤ a → a + k ≤ imageLength V1 → slice a k m ≡ slice a k n
   common-slice a k low high = slice-both m n a k (omega arith) (omega arith) (λ i p. same i (omega arith) (omega arith))
 
   -- a part's bit is set alike in both, whatever the part's bytes were
@@ -84,32 +86,24 @@ amend-unseen o new d n i low high = touched-byte o new (amending (signatureWord 
     off (in-word j a) (inl w) = let z : ⊥ = omega arith in z
     off (in-word j a) (inr w) = w
 
--- ---- an act
+-- ---- on images that are alike but for the words
 
-module _ (m n : List ℕ) (s : Same m n) where
-  long : imageLength v1 ≤ length m
-  long = omega (arith, facts v1 m (s .first) .long-is)
+module _ (m n : List ℕ) (s : Like m n) where
+  long : imageLength V1 ≤ length m
+  long = omega (arith, facts V1 m (s .first) .long-is)
 
-  long′ : imageLength v1 ≤ length n
-  long′ = omega (arith, facts v2 n (s .second) .long-is)
+  long′ : imageLength V1 ≤ length n
+  long′ = omega (arith, facts V2 n (s .second) .long-is)
 
-  sums-alike : (d : Cell) → isItem d ≡ true → fullSum d m ≡ fullSum d n
+  pub sums-alike : (d : Cell) → isItem d ≡ true → fullSum d m ≡ fullSum d n
   unfolding fullSum
   sums-alike d h =
       ap (λ (l : List ℕ). sumOf l % 65536)
-      (common-slice m n long long′ (s .bytes) (offset d) (size d) (omega (arith, item-low d h)) (item-inside v1 d h))
+      (common-slice m n long long′ (s .bytes) (offset d) (size d) (omega (arith, item-low d h)) (item-inside V1 d h))
 
-  says-alike : (a : Act) (d : Cell) (c : List ℕ) → Fit a d c → says v1 a d m ≡ says v2 a d n
-  says-alike Show d c f =
-      let p = placed v1 d f in
-      let z : getD m (offset d) 0 ≡ getD n (offset d) 0 = s .bytes (offset d) (omega (arith, p .low)) (omega (arith, p .high, size-some d f)) in
-      let few = extent-fits v1 m (facts v1 m (s .first)) d f in
-      common-slice m n long long′ (s .bytes) (offset d) (extent d (getD m (offset d) 0)) (omega (arith, p .low)) (omega (arith, p .high, few))
-      ∙ ap (λ (k : ℕ). slice (offset d) (extent d k) n) z
-  says-alike Sign d c f = ap two (sums-alike d f ∙ sym (s .words d f))
-  says-alike (Store k) d c f = refl
+  -- ---- an act
 
-  stored-alike : (d : Cell) (bs : List ℕ) → FitStore d bs → Common (stored v1 d bs m) (stored v2 d bs n)
+  stored-alike : (d : Cell) (bs : List ℕ) → FitStore d bs → Common (stored V1 d bs m) (stored V2 d bs n)
   unfolding stored
   stored-alike d bs fit =
       let new = padded (size d) bs in
@@ -118,91 +112,129 @@ module _ (m n : List ℕ) (s : Same m n) where
       let under = lay m (offset d) new in
       let under′ = lay n (offset d) new in
       let over = touchedAll old′ new (amending (signatureWord d) []) under′ in
-      let l : imageLength v1 ≤ length under = rw (length-lay m (offset d) new) long in
-      let l′ : imageLength v1 ≤ length over =
+      let l : imageLength V1 ≤ length under = rw (length-lay m (offset d) new) long in
+      let l′ : imageLength V1 ≤ length over =
       rw (touched-length old′ new (amending (signatureWord d) []) under′, length-lay n (offset d) new) long′ in
       let laid : Common under over =
       (λ i low high. common-lay m n long long′ (s .bytes) (offset d) new i low high ∙ sym (amend-unseen old′ new d under′ i low high)) in
       rw (amend-first old′ new (signatureWord d) (bits d) under′) (common-bits under over l l′ laid old old′ new new d (fit .cell))
 
-  leaves-alike : (a : Act) (d : Cell) (c : List ℕ) → Fit a d c → Common (leaves v1 a d c m) (leaves v2 a d c n)
+  leaves-alike : (a : Act) (d : Cell) (c : List ℕ) → Fit a d c → Common (leaves V1 a d c m) (leaves V2 a d c n)
   leaves-alike Show d c f = s .bytes
   leaves-alike Sign d c f = s .bytes
   leaves-alike (Store k) d c f = stored-alike d (drop k c) f
 
-  -- ---- what is answered
+  says-alike : (e : ℕ) (a : Act) (d : Cell) (c : List ℕ) → Fit a d c → AsksTrue (Accepted e a d) n → says V1 a d m ≡ says V2 a d n
+  says-alike e Show d c f t =
+      let p = placed V1 d f in
+      let z : getD m (offset d) 0 ≡ getD n (offset d) 0 = s .bytes (offset d) (omega (arith, p .low)) (omega (arith, p .high, size-some d f)) in
+      let few = extent-fits V1 m (facts V1 m (s .first)) d f in
+      common-slice m n long long′ (s .bytes) (offset d) (extent d (getD m (offset d) 0)) (omega (arith, p .low)) (omega (arith, p .high, few))
+      ∙ ap (λ (k : ℕ). slice (offset d) (extent d k) n) z
+  says-alike e Sign d c f t = ap two (sums-alike d f ∙ sym t)
+  says-alike e (Store k) d c f t = refl
+
+  -- ---- a turn
 
   one-address : address m ≡ address n
   one-address = s .bytes 5 (omega arith) (omega arith)
 
-  number-alike : (r : Verdict) (c : List ℕ) → done v1 r c m .number ≡ done v2 r c n .number
+  number-alike : (r : Verdict) (c : List ℕ) → done V1 r c m .number ≡ done V2 r c n .number
   number-alike (Refused k) c = refl
   number-alike (Accepted e a d) c = refl
 
-  reply-alike : (r : Verdict) (c : List ℕ) → FitVerdict r c → done v1 r c m .reply ≡ done v2 r c n .reply
-  reply-alike (Refused k) c f = refl
-  reply-alike (Accepted e a d) c f = ap (λ (l : List ℕ). frameOf (take (2 + e) c ++ l)) (says-alike a d c (f .act))
+  reply-alike : (r : Verdict) (c : List ℕ) → FitVerdict r c → AsksTrue r n → done V1 r c m .reply ≡ done V2 r c n .reply
+  reply-alike (Refused k) c f t = refl
+  reply-alike (Accepted e a d) c f t = ap (λ (l : List ℕ). frameOf (take (2 + e) c ++ l)) (says-alike e a d c (f .act) t)
 
-  image-alike : (r : Verdict) (c : List ℕ) → FitVerdict r c → Common (done v1 r c m .image) (done v2 r c n .image)
+  image-alike : (r : Verdict) (c : List ℕ) → FitVerdict r c → Common (done V1 r c m .image) (done V2 r c n .image)
   image-alike (Refused k) c f = s .bytes
   image-alike (Accepted e a d) c f = leaves-alike a d c (f .act)
 
-  -- ---- a turn
-
   module _ (ear : Switch → Hearing) (ok : (k : Switch) → Lawful (ear k)) (x : Turn) where
-    abbrev fits : FitVerdict (ear (x .switch) (address n) (x .frame)) (contentsOf (x .frame))
+    abbrev verdict : Verdict
+    verdict = ear (x .switch) (address n) (x .frame)
+
+    abbrev contents : List ℕ
+    contents = contentsOf (x .frame)
+
+    fits : FitVerdict verdict contents
     fits = ok (x .switch) .fits (address n) (x .frame)
 
-    -- with room for a reply, or without
-    pub turn-alike : (asked ear v1 m x .0 ≡ asked ear v2 n x .0) × Common (inTurn ear v1 m x .image) (inTurn ear v2 n x .image)
+    -- both refuse it 2, or both do what one verdict says
+    turn-both : (R : BuffersAfter → BuffersAfter → Type 0) → R (sent (refusal 2 m) (x .out)) (sent (refusal 2 n) (x .out))
+        → R (sent (done V1 verdict contents m) (x .out)) (sent (done V2 verdict contents n) (x .out)) → R (inTurn ear V1 m x) (inTurn ear V2 n x)
     unfolding answered
-    turn-alike = go (decLe 269 (length (x .out)))
+    turn-both R refused through = go (decLe 269 (length (x .out)))
       where
-        go : Dec (269 ≤ length (x .out)) → (asked ear v1 m x .0 ≡ asked ear v2 n x .0) × Common (inTurn ear v1 m x .image) (inTurn ear v2 n x .image)
+        go : Dec (269 ≤ length (x .out)) → R (inTurn ear V1 m x) (inTurn ear V2 n x)
         go (no r) =
             rw (
-              no-room-is-2 (ear (x .switch)) v1 (x .frame) m (x .out) (s .first) (omega arith),
-              no-room-is-2 (ear (x .switch)) v2 (x .frame) n (x .out) (s .second) (omega arith),
-            ) (refl, s .bytes)
+              no-room-is-2 (ear (x .switch)) V1 (x .frame) m (x .out) (s .first) (omega arith),
+              no-room-is-2 (ear (x .switch)) V2 (x .frame) n (x .out) (s .second) (omega arith),
+            ) refused
         go (yes r) =
-            let verdict = ear (x .switch) (address n) (x .frame) in
-            let c = contentsOf (x .frame) in
             rw (
-              served-is (ear (x .switch)) v1 (x .frame) m (x .out) (s .first) r,
-              served-is (ear (x .switch)) v2 (x .frame) n (x .out) (s .second) r,
+              served-is (ear (x .switch)) V1 (x .frame) m (x .out) (s .first) r,
+              served-is (ear (x .switch)) V2 (x .frame) n (x .out) (s .second) r,
               one-address,
-              number-alike verdict c,
-              reply-alike verdict c fits,
-            ) (refl, image-alike verdict c fits)
+            ) through
 
-    pub stays-same : Same (inTurn ear v1 m x .image) (inTurn ear v2 n x .image)
-    stays-same =
+    -- whatever the words say
+    pub numbers-alike : inTurn ear V1 m x .number ≡ inTurn ear V2 n x .number
+    numbers-alike = turn-both (λ a b. a .number ≡ b .number) refl (number-alike verdict contents)
+
+    pub stays-like : Like (inTurn ear V1 m x .image) (inTurn ear V2 n x .image)
+    stays-like =
         record {
-          first = usable-stays (ear (x .switch)) (ok (x .switch)) v1 (x .frame) m (x .out) (s .first);
-          second = usable-stays (ear (x .switch)) (ok (x .switch)) v2 (x .frame) n (x .out) (s .second);
-          bytes = turn-alike .1;
-          words = call-true ear ok n x (s .words);
+          first = usable-stays (ear (x .switch)) (ok (x .switch)) V1 (x .frame) m (x .out) (s .first);
+          second = usable-stays (ear (x .switch)) (ok (x .switch)) V2 (x .frame) n (x .out) (s .second);
+          bytes = turn-both (λ a b. Common (a .image) (b .image)) (s .bytes) (image-alike verdict contents fits);
         }
+
+    -- number, length and whole output, where no false word is asked for
+    pub told-alike : AsksTrue verdict n → asked ear V1 m x .0 ≡ asked ear V2 n x .0
+    told-alike t = turn-both (λ a b. told a ≡ told b) refl (rw (number-alike verdict contents, reply-alike verdict contents fits t))
+
+-- ---- with true words
+
+asks-true : (r : Verdict) (c n : List ℕ) → FitVerdict r c → TrueWords n → AsksTrue r n
+asks-true (Refused k) c n f t = tt
+asks-true (Accepted e Show d) c n f t = tt
+asks-true (Accepted e Sign d) c n f t = t d (f .act)
+asks-true (Accepted e (Store k) d) c n f t = tt
+
+module _ (m n : List ℕ) (s : Same m n) (ear : Switch → Hearing) (ok : (k : Switch) → Lawful (ear k)) (x : Turn) where
+  pub turn-alike : asked ear V1 m x .0 ≡ asked ear V2 n x .0
+  turn-alike =
+      told-alike m n (s .like) ear ok x
+      (asks-true (ear (x .switch) (address n) (x .frame)) (contentsOf (x .frame)) n (ok (x .switch) .fits (address n) (x .frame)) (s .words))
+
+  pub stays-same : Same (inTurn ear V1 m x .image) (inTurn ear V2 n x .image)
+  stays-same = record { like = stays-like m n (s .like) ear ok x; words = call-true ear ok n x (s .words) }
 
 -- ---- calls one after the other
 
 module _ (ear : Switch → Hearing) (ok : (k : Switch) → Lawful (ear k)) where
-  pub answers-alike : (m n : List ℕ) → Same m n → (xs : List Turn) → outcomes (asked ear v1) m xs ≡ outcomes (asked ear v2) n xs
+  pub answers-alike : (m n : List ℕ) → Same m n → (xs : List Turn) → outcomes (asked ear V1) m xs ≡ outcomes (asked ear V2) n xs
   answers-alike m n s [] = refl
   answers-alike m n s (x ∷ xs) =
-      ap₂ _∷_ (turn-alike m n s ear ok x .0) (answers-alike (inTurn ear v1 m x .image) (inTurn ear v2 n x .image) (stays-same m n s ear ok x) xs)
+      ap₂ _∷_ (turn-alike m n s ear ok x) (answers-alike (inTurn ear V1 m x .image) (inTurn ear V2 n x .image) (stays-same m n s ear ok x) xs)
 
 -- fresh images hold the same
-pub fresh-same : (a : ℕ) → a ≢ 0 → Same (fresh v1 a) (fresh v2 a)
+pub fresh-same : (a : ℕ) → a ≢ 0 → Same (fresh V1 a) (fresh V2 a)
 fresh-same a some =
-    record { first = fresh-usable v1 a some; second = fresh-usable v2 a some; bytes = λ i low high. go i low (ℕ-discrete i 5); words = fresh-true a }
+    record {
+      like = record { first = fresh-usable V1 a some; second = fresh-usable V2 a some; bytes = λ i low high. go i low (ℕ-discrete i 5) };
+      words = fresh-true a;
+    }
   where
-    go : (i : ℕ) → 5 ≤ i → Dec (i ≡ 5) → getD (fresh v1 a) i 0 ≡ getD (fresh v2 a) i 0
-    go i low (yes e) = rw e (head-at v1 a 5 (omega arith) ∙ sym (head-at v2 a 5 (omega arith)))
-    go i low (no n) = rest-at v1 a i (omega arith) ∙ sym (rest-at v2 a i (omega arith))
+    go : (i : ℕ) → 5 ≤ i → Dec (i ≡ 5) → getD (fresh V1 a) i 0 ≡ getD (fresh V2 a) i 0
+    go i low (yes e) = rw e (head-at V1 a 5 (omega arith) ∙ sym (head-at V2 a 5 (omega arith)))
+    go i low (no n) = rest-at V1 a i (omega arith) ∙ sym (rest-at V2 a i (omega arith))
 
 -- an image of address 0 is not usable
-zero-unusable : (v : Version) → usable v (fresh v 0) ≡ false
+pub zero-unusable : (v : Version) → usable v (fresh v 0) ≡ false
 unfolding addressOk
 zero-unusable v = go (usable v (fresh v 0)) refl
   where
@@ -210,15 +242,15 @@ zero-unusable v = go (usable v (fresh v 0)) refl
     go true u = absurd (never (rw (head-at v 0 5 (omega arith)) at (facts v (fresh v 0) u .address-is)))
     go false u = u
 
-refused-alike : (ear : Switch → Hearing) (m n : List ℕ) → usable v1 m ≡ false → usable v2 n ≡ false → (xs : List Turn)
-    → outcomes (asked ear v1) m xs ≡ outcomes (asked ear v2) n xs
+refused-alike : (ear : Switch → Hearing) (m n : List ℕ) → usable V1 m ≡ false → usable V2 n ≡ false → (xs : List Turn)
+    → outcomes (asked ear V1) m xs ≡ outcomes (asked ear V2) n xs
 refused-alike ear m n u w [] = refl
 refused-alike ear m n u w (x ∷ xs) =
-    rw (unusable-is-1 (ear (x .switch)) v1 (x .frame) m (x .out) u, unusable-is-1 (ear (x .switch)) v2 (x .frame) n (x .out) w)
+    rw (unusable-is-1 (ear (x .switch)) V1 (x .frame) m (x .out) u, unusable-is-1 (ear (x .switch)) V2 (x .frame) n (x .out) w)
     (ap (λ (l : List (ℕ × ℕ × List ℕ)). (1, 0, lay (x .out) 0 []) ∷ l) (refused-alike ear m n u w xs))
 
 -- so whatever is asked from there on, in either position of the switch and with any outputs, the answers are the same
-pub versions-answer-alike : (a : ℕ) (xs : List Turn) → outcomes (asked heard v1) (fresh v1 a) xs ≡ outcomes (asked heard v2) (fresh v2 a) xs
-versions-answer-alike zero xs = refused-alike heard (fresh v1 0) (fresh v2 0) (zero-unusable v1) (zero-unusable v2) xs
+pub versions-answer-alike : (a : ℕ) (xs : List Turn) → outcomes (asked heard V1) (fresh V1 a) xs ≡ outcomes (asked heard V2) (fresh V2 a) xs
+versions-answer-alike zero xs = refused-alike heard (fresh V1 0) (fresh V2 0) (zero-unusable V1) (zero-unusable V2) xs
 versions-answer-alike (suc a) xs =
-    answers-alike heard heard-lawful (fresh v1 (suc a)) (fresh v2 (suc a)) (fresh-same (suc a) (λ e. absurd (let z : ⊥ = omega arith in z))) xs
+    answers-alike heard heard-lawful (fresh V1 (suc a)) (fresh V2 (suc a)) (fresh-same (suc a) (λ e. absurd (let z : ⊥ = omega arith in z))) xs

@@ -13,7 +13,7 @@ use Rattle.frame.specs.Built.{frameOf}
 use Rattle.image.specs.declared.cell.Cell.{Cell}
 use Rattle.image.specs.declared.cell.Named.the-variants as Named′
 use Rattle.image.specs.declared.cell.Signed.the-variants.{At}
-use Rattle.image.specs.Version.{v2}
+use Rattle.image.specs.declared.version.Version.the-variants.{V2}
 use Rattle.image.specs.Cell.{constantsNamed, errorsNamed, tableIndex, tableNamed}
 use Rattle.image.specs.Words.{keptOffset, signatureWord}
 use Rattle.image.specs.Usable.{usable, address}
@@ -32,8 +32,8 @@ use Rattle.izk.proofs.ReadBack.{Replies, replies-as-said}
 
 -- a command that was done replies its address, its own number and the byte behind it, and then the word at an offset that this byte gives
 abbrev pub AnswersWord : ℕ → (ℕ → ℕ) → Type 0
-AnswersWord k from = (ear : Hearing) → Lawful ear → (g m out : List ℕ) → byte (contentsOf g) 2 ≡ k → served ear v2 g m out .number ≡ 0
-    → Replies (served ear v2 g m out) (frameOf (take 3 (contentsOf g) ++ two (wordAt m (from (byte (contentsOf g) 3)))))
+AnswersWord k from = (ear : Hearing) → Lawful ear → (g m out : List ℕ) → byte (contentsOf g) 2 ≡ k → served ear V2 g m out .number ≡ 0
+    → Replies (served ear V2 g m out) (frameOf (take 3 (contentsOf g) ++ two (wordAt m (from (byte (contentsOf g) 3)))))
 
 -- a rule that signs what one byte names
 pub record Signs (k : ℕ) (from : ℕ → ℕ) : Type 0 where
@@ -45,11 +45,11 @@ pub record Signs (k : ℕ) (from : ℕ → ℕ) : Type 0 where
 
 signs-answer : {k : ℕ} {from : ℕ → ℕ} → Signs k from → AnswersWord k from
 signs-answer {from} r ear ok g m out is z =
-    let (u, room, x) = zero-is-accepted ear ok v2 g m out z in
+    let (u, room, x) = zero-is-accepted ear ok V2 g m out z in
     let b = ok .follows (address m) g (r .rule) (x .verdict) (rw is (r .found)) in
     let h : ear (address m) g ≡ Accepted 1 Sign (x .cell) = x .verdict ∙ rw (b .echoes, b .acts, r .echoes, r .acts) in
     let w = r .word (contentsOf g) (x .cell) (b .names) in
-    rw w at (replies-as-said ear ok v2 g m 1 Sign (x .cell) h u out room)
+    rw w at (replies-as-said ear ok V2 g m 1 Sign (x .cell) h u out room)
 
 -- ---- the three, by the offsets of document 02
 
@@ -77,13 +77,13 @@ answers-words = (signs-answer signs-55, signs-answer signs-61, signs-answer sign
 -- of two images of one length that have the same bytes before the words, and any words, a frame gets the same number: 1 and what follows ask nothing of
 -- these
 pub words-unjudged : (ear : Hearing) (f m m′ out : List ℕ) → length m′ ≡ length m → ((i : ℕ) → i < keptOffset 0 → getD m′ i 0 ≡ getD m i 0)
-    → served ear v2 f m′ out .number ≡ served ear v2 f m out .number
-words-unjudged ear f m m′ out long same = go (usable v2 m) refl (decLe 269 (length out))
+    → served ear V2 f m′ out .number ≡ served ear V2 f m out .number
+words-unjudged ear f m m′ out long same = go (usable V2 m) refl (decLe 269 (length out))
   where
-    alike : usable v2 m′ ≡ usable v2 m
-    alike = usable-same v2 m m′ long (λ i l. same i (omega arith))
+    alike : usable V2 m′ ≡ usable V2 m
+    alike = usable-same V2 m m′ long (λ i l. same i (omega arith))
 
-    go : (b : Bool) → usable v2 m ≡ b → Dec (269 ≤ length out) → served ear v2 f m′ out .number ≡ served ear v2 f m out .number
-    go false u r = rw (unusable-is-1 ear v2 f m out u, unusable-is-1 ear v2 f m′ out (alike ∙ u))
-    go true u (no r) = rw (no-room-is-2 ear v2 f m out u (omega arith), no-room-is-2 ear v2 f m′ out (alike ∙ u) (omega arith))
-    go true u (yes r) = acceptance-by-address ear v2 f m′ m out out (alike ∙ u) u (same 5 (omega arith)) r r
+    go : (b : Bool) → usable V2 m ≡ b → Dec (269 ≤ length out) → served ear V2 f m′ out .number ≡ served ear V2 f m out .number
+    go false u r = rw (unusable-is-1 ear V2 f m out u, unusable-is-1 ear V2 f m′ out (alike ∙ u))
+    go true u (no r) = rw (no-room-is-2 ear V2 f m out u (omega arith), no-room-is-2 ear V2 f m′ out (alike ∙ u) (omega arith))
+    go true u (yes r) = acceptance-by-address ear V2 f m′ m out out (alike ∙ u) u (same 5 (omega arith)) r r

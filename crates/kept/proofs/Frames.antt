@@ -7,7 +7,7 @@ use Rattle.laws.specs.Bits.{withBit}
 use Rattle.frame.specs.Digits.{isDigit, valueOf, charOf, charsOf, bytesOf, checksumOf}
 use Rattle.frame.specs.Apart.{lengthOk, endsOk, inner, bodyOf, contentsOf, sumOk, frameChecks}
 use Rattle.frame.specs.Built.{frameOf}
-use Rattle.image.specs.Version.{v1}
+use Rattle.image.specs.declared.version.Version.the-variants.{V1}
 use Rattle.image.specs.Cell.{when, constantsNamed, errorsNamed, isTable, tableIndex, tableNamed, partNamed}
 use Rattle.image.specs.Words.{tableWord}
 use Rattle.image.specs.Usable.{markOk, addressOk, countOk, wordOk, usable}
@@ -21,7 +21,7 @@ use Rattle.izk.specs.Heard.{heard, answered}
 use Rattle.izk.specs.Block.{served}
 use Rattle.izk.specs.Frames.{ended, on, after, right, examples}
 
-pub examples-hold-1 : all (right v1) examples ≡ true
+pub examples-hold-1 : all (right V1) examples ≡ true
 unfolding examples ended on after right served answered heard recognised sought lets tried ruleOf commands rowed rowsNamed zeroFrom blank constantsOk
     degrees rises clockOk modeOk markOk addressOk countOk tableWord wordOk usable fresh fullSum stored when constantsNamed errorsNamed isTable
     tableIndex tableNamed partNamed lengthOk endsOk inner bodyOf contentsOf sumOk frameChecks frameOf isDigit valueOf charOf charsOf

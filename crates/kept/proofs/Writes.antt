@@ -13,7 +13,8 @@ use Rattle.frame.specs.Apart.{contentsOf}
 use Rattle.image.specs.declared.cell.Cell.{Cell}
 use Rattle.image.specs.declared.cell.Cell.the-variants.{Mask, Mode, Clock}
 use Rattle.image.specs.declared.cell.Named.the-variants as Named′
-use Rattle.image.specs.Version.{Version, v1, v2}
+use Rattle.image.specs.declared.version.Version.{Version}
+use Rattle.image.specs.declared.version.Version.the-variants.{V1, V2}
 use Rattle.image.specs.Cell.{offset, size, isItem, cellsOf}
 use Rattle.image.specs.Usable.{usable, address}
 use Rattle.image.proofs.UsableFacts.{facts}
@@ -43,8 +44,8 @@ use Rattle.izk.proofs.Changes.{OnlyIn, accepted-fits, accepted-leaves, write-ch
 
 -- it changes its cell, the words that change along, its bit and its item's signature, and nothing else; and the word of every other item is as it was
 pub record CellAndWord (d : Cell) (m m′ : List ℕ) : Type 0 where
-  pub only : OnlyIn v2 d m m′
-  pub others : (e : Cell) → isItem e ≡ true → ¬ List·Memᴰ d (cellsOf e) → signature v2 e m′ ≡ signature v2 e m
+  pub only : OnlyIn V2 d m m′
+  pub others : (e : Cell) → isItem e ≡ true → ¬ List·Memᴰ d (cellsOf e) → signature V2 e m′ ≡ signature V2 e m
 
 module _ (ear : Hearing) (ok : Lawful ear) (f m out : List ℕ) (e k : ℕ) (d : Cell) (h : ear (address m) f ≡ Accepted e (Store k) d) where
   abbrev bs : List ℕ
@@ -53,22 +54,22 @@ module _ (ear : Hearing) (ok : Lawful ear) (f m out : List ℕ) (e k : ℕ) (d :
   abbrev fit : FitStore d bs
   fit = accepted-fits ear ok f m e (Store k) d h .act
 
-  pub write-changes : CellAndWord d m (served ear v2 f m out .image)
-  write-changes = record { only = write-changes-its-cell ear ok v2 f m out e d k h; others = go (way ear v2 f m out) }
+  pub write-changes : CellAndWord d m (served ear V2 f m out .image)
+  write-changes = record { only = write-changes-its-cell ear ok V2 f m out e d k h; others = go (way ear V2 f m out) }
     where
-      go : Way ear v2 f m out → (c : Cell) → isItem c ≡ true → ¬ List·Memᴰ d (cellsOf c) → signature v2 c (served ear v2 f m out .image) ≡ signature v2 c m
+      go : Way ear V2 f m out → (c : Cell) → isItem c ≡ true → ¬ List·Memᴰ d (cellsOf c) → signature V2 c (served ear V2 f m out .image) ≡ signature V2 c m
       go (early n i x) c item off = rw x
       go (through u r x) c item off =
-          rw (x, accepted-leaves ear v2 f m e (Store k) d h) (signature-stays v2 m (facts v2 m u .long-is) d bs fit c item off)
+          rw (x, accepted-leaves ear V2 f m e (Store k) d h) (signature-stays V2 m (facts V2 m u .long-is) d bs fit c item off)
 
   -- done, it has amended the word of the item that holds its cell, by what left the cell and what stands there now
-  pub write-amends : served ear v2 f m out .number ≡ 0 → (c : Cell) → isItem c ≡ true → List·Memᴰ d (cellsOf c)
-      → let m′ = served ear v2 f m out .image in
-      signature v2 c m′ ≡ amended (slice (offset d) (size d) m) (slice (offset d) (size d) m′) (signature v2 c m)
+  pub write-amends : served ear V2 f m out .number ≡ 0 → (c : Cell) → isItem c ≡ true → List·Memᴰ d (cellsOf c)
+      → let m′ = served ear V2 f m out .image in
+      signature V2 c m′ ≡ amended (slice (offset d) (size d) m) (slice (offset d) (size d) m′) (signature V2 c m)
   write-amends z c item has =
-      let (u, room, x) = zero-is-accepted ear ok v2 f m out z in
-      let l = facts v2 m u .long-is in
-      rw (served-is ear v2 f m out u room, accepted-leaves ear v2 f m e (Store k) d h, cell-filled v2 d bs fit m l) (word-amended m l d bs fit c item has)
+      let (u, room, x) = zero-is-accepted ear ok V2 f m out z in
+      let l = facts V2 m u .long-is in
+      rw (served-is ear V2 f m out u room, accepted-leaves ear V2 f m e (Store k) d h, cell-filled V2 d bs fit m l) (word-amended m l d bs fit c item has)
 
 -- ---- 51, 76 and 77
 
@@ -95,9 +96,9 @@ pub record Plain (v : Version) (d : Cell) : Type 0 where
   pub alone : touches v d ≡ []
 
 untouched : (v : Version) → Plain v Mask × Plain v Mode × Plain v Clock
-untouched v1 =
+untouched V1 =
     (record { before = omega arith; alone = refl }, record { before = omega arith; alone = refl }, record { before = omega arith; alone = refl })
-untouched v2 =
+untouched V2 =
     (record { before = omega arith; alone = refl }, record { before = omega arith; alone = refl }, record { before = omega arith; alone = refl })
 
 plain-cell : (v : Version) (n : Names) (c : List ℕ) (d : Cell) → plain n ≡ true → namedBy n c ≡ Named′.Cell d → Plain v d

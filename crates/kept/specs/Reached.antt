@@ -2,7 +2,7 @@
 -- of the switch, and laying out a fresh one. Assumes nothing.
 use mathlib.Core.List.{List}
 use Prim.Native.Nat.{ℕ}
-use Rattle.image.specs.Version.{Version}
+use Rattle.image.specs.declared.version.Version.{Version}
 use Rattle.image.specs.Fresh.{fresh, freshened}
 use Rattle.izk.specs.Heard.{heard}
 use Rattle.izk.specs.Since.{Turn, inTurn}

@@ -1,11 +1,12 @@
 -- Laws of `slice`, `lay` and what is counted of bytes. Assumes nothing.
 use mathlib.Core.Path.{_≡_, refl, sym, ap, _∙_}
-use mathlib.Core.List.{List, [], _∷_, _++_, map, append-assoc}
+use mathlib.Core.List.{List, [], _∷_, _++_, map, append-assoc, append-nil}
 use Prim.Native.Nat.{ℕ, zero, suc, _+_, _-_, _/_, _%_, _≤_, _<_}
 use native.Mathlib.Nat.{not-suc-le-zero}
 use native.Mathlib.Numerals.{add-one}
 use native.Mathlib.Omega.{arith}
 use lib.ListN.{length, getD, take, drop, set, length-take, length-drop, length-set, length-append, length-replicate, List·getD-append}
+use lib.ListN.{drop-of-length-le}
 use lib.Seq.{sets, length-sets, sets-eq, set-comm, getD-set-same, getD-set-other, getD-take, getD-drop, ext-getD, take-at, drop-at, take-append-le}
 use lib.Seq.{length-take-le}
 use Rattle.laws.specs.Bytes.{slice, lay, zeros, padded, two, wordAt}
@@ -138,6 +139,25 @@ module _ (z l : List ℕ) (fits : length l ≤ length z) where
   -- what follows is as it was
   pub lay-rest : drop (length l) (lay z 0 l) ≡ drop (length l) z
   lay-rest = rw lay-start (drop-at l (drop (length l) z) (length l) refl)
+
+-- nothing of the list is left where as much is laid
+pub lay-whole : (z l : List ℕ) → length l ≡ length z → lay z 0 l ≡ l
+lay-whole z l e = let h : length z ≤ length l = omega arith in lay-start z l (omega arith) ∙ rw (drop-of-length-le z h, append-nil)
+
+-- bytes laid in the front of a list, and so in what was laid at its start
+pub lay-front : (l r : List ℕ) (k : ℕ) (vs : List ℕ) → k + length vs ≤ length l → lay (l ++ r) k vs ≡ lay l k vs ++ r
+unfolding lay
+lay-front [] r zero [] h = lay-none r 0
+lay-front [] r zero (v ∷ vs) h = absurd (omega arith)
+lay-front [] r (suc k) vs h = absurd (omega arith)
+lay-front (x ∷ l) r zero [] h = refl
+lay-front (x ∷ l) r zero (v ∷ vs) h = ap (λ (t : List ℕ). v ∷ t) (lay-front l r zero vs (omega arith))
+lay-front (x ∷ l) r (suc k) vs h = ap (λ (t : List ℕ). x ∷ t) (lay-front l r k vs (omega arith))
+
+pub lay-within : (z l : List ℕ) (k : ℕ) (vs : List ℕ) → k + length vs ≤ length l → length l ≤ length z → lay (lay z 0 l) k vs ≡ lay z 0 (lay l k vs)
+lay-within z l k vs h g =
+    let e = length-lay l k vs in
+    rw (lay-start z l g, lay-start z (lay l k vs) (omega arith), e) (lay-front l (drop (length l) z) k vs h)
 
 -- ---- a slice
 

@@ -10,7 +10,7 @@ use Rattle.reorder.proofs.Readings.{each-outcome, alike-service}
 use Rattle.frame.specs.Apart.{contentsOf}
 use Rattle.frame.specs.Built.{frameOf}
 use Rattle.image.specs.declared.cell.Cell.{Cell}
-use Rattle.image.specs.Version.{Version}
+use Rattle.image.specs.declared.version.Version.{Version}
 use Rattle.image.proofs.UsableFacts.{Usable, facts}
 use Rattle.rules.specs.declared.rule.Act.{Act}
 use Rattle.rules.specs.declared.verdict.Verdict.{Verdict}

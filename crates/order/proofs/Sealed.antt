@@ -12,7 +12,7 @@ use Rattle.reorder.specs.Reorder.{Commutes, pick, Reorders, SameService}
 use Rattle.reorder.proofs.Order.{any-order}
 use Rattle.reorder.proofs.Readings.{alike-service}
 use Rattle.frame.specs.Apart.{contentsOf, frameChecks}
-use Rattle.image.specs.Version.{Version}
+use Rattle.image.specs.declared.version.Version.{Version}
 use Rattle.image.specs.Usable.{usable, address}
 use Rattle.rules.specs.declared.rule.Act.the-variants.{Show, Sign, Store}
 use Rattle.rules.specs.declared.switch.Switch.the-variants.{Sealed}

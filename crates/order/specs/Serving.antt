@@ -7,7 +7,7 @@ use Prim.Native.Nat.{ℕ, _≤_}
 use native.Mathlib.Omega.{arith}
 use lib.ListN.{length, replicate, length-replicate}
 use Rattle.image.specs.declared.cell.Cell.{Cell}
-use Rattle.image.specs.Version.{Version}
+use Rattle.image.specs.declared.version.Version.{Version}
 use Rattle.image.specs.Usable.{usable, address}
 use Rattle.rules.specs.declared.verdict.Verdict.{Verdict}
 use Rattle.command.specs.Reply.{readsOf, writesOf, replyIn}

@@ -70,14 +70,28 @@ fn build(contents: &[u8], out: &mut [u8]) {
     print::end();
 }
 
-// A record that prints a line. A frame, or the contents of one, stands behind its length.
-fn call(rec: &[u8], image: &mut [u8], out: &mut [u8])
-    requires { ⌜ 2 ≤ length (now rec) ⌝ }
-{
-    let letter = rec[0];
+fn moved(letter: u8, number: u8, image: &[u8], second: &[u8]) {
+    print::letter(letter);
+    print::number(number as u64);
+    print::bytes(image);
+    print::bytes(second);
+    print::end();
+}
+
+// From the image into the second buffer.
+fn move_between(letter: u8, image: &[u8], second: &mut [u8]) {
+    match letter {
+        b'U' => moved(letter, versions::move_up(image, second), image, second),
+        _ => moved(letter, versions::move_down(image, second), image, second),
+    }
+}
+
+// A record that prints a line, of one buffer. A frame, or the contents of one, stands behind its length.
+fn call(rec: &[u8], image: &mut [u8], out: &mut [u8]) {
+    let letter = script::byte(rec, 0);
     let from = least(3, rec.len());
     match letter {
-        b'F' => fresh(rec[1], image),
+        b'F' => fresh(script::byte(rec, 1), image),
         b'H' => held(rec, image),
         b'K' => serve(letter, Switch::Sealed, &rec[from..], image, out),
         b'S' => serve(letter, Switch::Unsealed, &rec[from..], image, out),
@@ -87,47 +101,46 @@ fn call(rec: &[u8], image: &mut [u8], out: &mut [u8])
 }
 
 // One record, or the end of the run where none can be read.
-pub(crate) fn step(state: State, text: &[u8], image: &mut [u8], out: &mut [u8]) -> State
+pub(crate) fn step(
+    mut state: State,
+    text: &[u8],
+    image: &mut [u8],
+    second: &mut [u8],
+    out: &mut [u8],
+) -> State
     requires { ⌜ state .at < length (now text) ⌝ }
     ensures { λ r. ⌜ state .at < r .at ⌝ }
 {
     let at = state.at;
     let n = script::size(&text[at..]);
-    if n < 2 {
+    if n < 1 {
         print::letter(b'?');
         print::end();
-        return State {
-            at: text.len(),
-            long: 0,
-            room: 0,
-        };
+        state.at = text.len();
+        return state;
     }
     let e = at + n;
     let rec = &text[at..e];
     let letter = rec[0];
     let long = least(state.long, image.len());
+    let other = least(state.second, second.len());
     let room = least(state.room, out.len());
     match letter {
-        b'L' => State {
-            at: e,
-            long: script::three(rec, 1),
-            room,
-        },
-        b'P' => {
-            poke(image, script::three(rec, 1), script::byte(rec, 4));
-            State { at: e, long, room }
+        b'L' => state.long = script::three(rec, 1),
+        b'P' => poke(image, script::three(rec, 1), script::byte(rec, 4)),
+        b'W' => fill(image, script::byte(rec, 1)),
+        b'X' => {
+            state.long = other;
+            state.second = long;
+            state.turned = !state.turned;
         }
         b'O' => {
             fill(out, script::byte(rec, 3));
-            State {
-                at: e,
-                long,
-                room: script::two(rec, 1),
-            }
+            state.room = script::two(rec, 1);
         }
-        _ => {
-            call(rec, &mut image[..long], &mut out[..room]);
-            State { at: e, long, room }
-        }
+        b'D' | b'U' => move_between(letter, &image[..long], &mut second[..other]),
+        _ => call(rec, &mut image[..long], &mut out[..room]),
     }
+    state.at = e;
+    state
 }

@@ -3,11 +3,14 @@ ghost use mathlib.Core.Path.{_≡_};
 ghost use Prim.Native.Nat.{_<_, _≤_};
 ghost use lib.ListN.{length, getD};
 
-// Where the next record begins, and how much of the image buffer and of the output buffer a call is lent.
+// Where the next record begins, how much of the image buffer, the second buffer and the output buffer a call is lent, and whether the two buffers have
+// changed places.
 pub struct State {
     pub at: usize,
     pub long: usize,
+    pub second: usize,
     pub room: usize,
+    pub turned: bool,
 }
 
 // A byte of a record; one past its end counts 0.
@@ -38,7 +41,8 @@ fn least_size(letter: u8) -> usize
     ensures { λ r. ⌜ r ≤ 5 ⌝ }
 {
     match letter {
-        b'F' => 2,
+        b'D' | b'U' | b'X' => 1,
+        b'F' | b'W' => 2,
         b'B' | b'K' | b'S' | b'T' => 3,
         b'L' | b'O' => 4,
         b'H' | b'P' => 5,

@@ -14,13 +14,15 @@ use Rattle.laws.proofs.Bytes.{In, Disjoint, length-lay, lay-swap, length-padded
 use Rattle.image.specs.declared.cell.Cell.{Cell}
 use Rattle.image.specs.declared.cell.Cell.the-variants.{Errors}
 use Rattle.image.specs.declared.cell.Signed.{Signed}
-use Rattle.image.specs.Version.{Version, v1, v2, imageLength}
-use Rattle.image.specs.Cell.{offset, size, extent, isCell, isItem, cellsOf}
+use Rattle.image.specs.declared.version.Version.{Version}
+use Rattle.image.specs.declared.version.Version.the-variants.{V1, V2}
+use Rattle.image.specs.Version.{imageLength}
+use Rattle.image.specs.Cell.{offset, size, extent, isCell, isItem, itemAt, cellsOf}
 use Rattle.image.specs.Words.{keptOffset}
 use Rattle.image.proofs.Cells.{one-cell, placed, covered, extent-view}
 use Rattle.image.proofs.UsableFacts.{Usable}
 use Rattle.image.proofs.Stretches.{cell-made, item-made, only-cell}
-use Rattle.image.proofs.Kept.{itemAt, Counted, Counts, nowhere, in-word, counts-view, kept-words}
+use Rattle.image.proofs.Kept.{Counted, Counts, nowhere, in-word, counts-view, kept-words}
 use Rattle.storing.specs.Signature.{fullSum, wordKept, signature}
 use Rattle.storing.specs.Stored.{touchedAll, bits, amending, touches, stored, FitStore}
 use Rattle.storing.proofs.Touches.{Own, touched-lay, touched-swap, bits-below, touches-agree, no-touch-in-cell, touches-room}
@@ -67,22 +69,22 @@ module _ (d : Cell) (cell : isCell d ≡ true) (e : Cell) (item : isItem e ≡ t
   word-apart (in-word k a) i b j p (inr w) = let z = bits-below d j cell w in omega arith
 
 -- so its signature stays
-module _ (m : List ℕ) (long : length m ≡ imageLength v2) (d : Cell) (bs : List ℕ) (fit : FitStore d bs)
+module _ (m : List ℕ) (long : length m ≡ imageLength V2) (d : Cell) (bs : List ℕ) (fit : FitStore d bs)
     (e : Cell) (item : isItem e ≡ true) (out : ¬ List·Memᴰ d (cellsOf e)) where
-  kept-byte : (i : ℕ) → Counted e i → (j : ℕ) → In (keptOffset i) 2 j → getD (stored v2 d bs m) j 0 ≡ getD m j 0
+  kept-byte : (i : ℕ) → Counted e i → (j : ℕ) → In (keptOffset i) 2 j → getD (stored V2 d bs m) j 0 ≡ getD m j 0
   kept-byte i b j p =
-      byte-stays v2 d bs fit m long j (λ a. placed v2 d (fit .cell) .words j a (kept-words i (b .is item .0) j p))
+      byte-stays V2 d bs fit m long j (λ a. placed V2 d (fit .cell) .words j a (kept-words i (b .is item .0) j p))
       (word-apart d (fit .cell) e item out (counts-view d) i b j p)
 
-  word-stays : {y : Signed} → Counts e y → wordKept y (stored v2 d bs m) ≡ wordKept y m
+  word-stays : {y : Signed} → Counts e y → wordKept y (stored V2 d bs m) ≡ wordKept y m
   unfolding wordAt
   word-stays (nowhere a) = refl
   word-stays (in-word i b) = rw (kept-byte i b (keptOffset i) (omega arith, omega arith), kept-byte i b (keptOffset i + 1) (omega arith, omega arith))
 
 pub signature-stays : (v : Version) (m : List ℕ) → length m ≡ imageLength v → (d : Cell) (bs : List ℕ) → FitStore d bs
     → (e : Cell) → isItem e ≡ true → ¬ List·Memᴰ d (cellsOf e) → signature v e (stored v d bs m) ≡ signature v e m
-signature-stays v1 m long d bs fit e item out = sum-stays v1 m long d bs fit e item out
-signature-stays v2 m long d bs fit e item out = word-stays m long d bs fit e item out (counts-view e)
+signature-stays V1 m long d bs fit e item out = sum-stays V1 m long d bs fit e item out
+signature-stays V2 m long d bs fit e item out = word-stays m long d bs fit e item out (counts-view e)
 
 -- ---- two stores
 

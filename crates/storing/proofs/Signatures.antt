@@ -14,12 +14,14 @@ use Rattle.laws.proofs.Sums.{sum-laid}
 use Rattle.image.specs.declared.cell.Cell.{Cell}
 use Rattle.image.specs.declared.cell.Signed.{Signed}
 use Rattle.image.specs.declared.cell.Signed.the-variants.{Nowhere, At}
-use Rattle.image.specs.Version.{Version, v1, v2, imageLength}
-use Rattle.image.specs.Cell.{offset, size, isCell, isItem, cellsOf}
+use Rattle.image.specs.declared.version.Version.{Version}
+use Rattle.image.specs.declared.version.Version.the-variants.{V1, V2}
+use Rattle.image.specs.Version.{imageLength}
+use Rattle.image.specs.Cell.{offset, size, isCell, isItem, itemAt, cellsOf}
 use Rattle.image.specs.Words.{keptOffset, signatureWord}
 use Rattle.image.proofs.Cells.{placed, covered}
 use Rattle.image.proofs.Stretches.{item-made, item-inside}
-use Rattle.image.proofs.Kept.{itemAt, Counted, Counts, nowhere, in-word, counts-view, kept-words, place, holds}
+use Rattle.image.proofs.Kept.{Counted, Counts, nowhere, in-word, counts-view, kept-words, place, holds}
 use Rattle.storing.specs.Signature.{fullSum, wordKept, signature, TrueWords, falseBy}
 use Rattle.storing.specs.Stored.{touched, touchedAll, bits, amended, amendAt, amending, touches, stored, FitStore}
 use Rattle.storing.proofs.Touches.{Own, touched-byte, touched-word, bits-below, no-touch-in-cell}
@@ -32,8 +34,8 @@ sum-word d m = omega arith
 
 pub signature-word : (v : Version) (d : Cell) (m : List ℕ) → Bytes m → signature v d m < 65536
 unfolding wordAt
-signature-word v1 d m b = sum-word d m
-signature-word v2 d m b = go (signatureWord d)
+signature-word V1 d m b = sum-word d m
+signature-word V2 d m b = go (signatureWord d)
   where
     go : (x : Signed) → wordKept x m < 65536
     go Nowhere = omega arith
@@ -77,7 +79,7 @@ module _ (v : Version) (m : List ℕ) (long : length m ≡ imageLength v) (d : C
       ∙ balance (sumOf (slice (offset e) (size e) m)) (sumOf (slice (offset e) (size e) laid)) (sumOf old) (sumOf new)
       (rw (there, full, whole) at (sum-laid m (offset e) n k new inside))
 
-module _ (m : List ℕ) (long : length m ≡ imageLength v2) (d : Cell) (bs : List ℕ) (fit : FitStore d bs)
+module _ (m : List ℕ) (long : length m ≡ imageLength V2) (d : Cell) (bs : List ℕ) (fit : FitStore d bs)
     (e : Cell) (item : isItem e ≡ true) (has : List·Memᴰ d (cellsOf e)) where
   abbrev gone : List ℕ
   gone = slice (offset d) (size d) m
@@ -92,7 +94,7 @@ module _ (m : List ℕ) (long : length m ≡ imageLength v2) (d : Cell) (bs : Li
       let o = keptOffset i in
       let under = lay m (offset d) come in
       let off : (j : ℕ) → In o 2 j → ¬ In (offset d) (length come) j =
-      (λ j p a. placed v2 d (fit .cell) .words j (a .0, rw (length-padded (size d) bs (fit .room)) at (a .1)) (kept-words i (b .is item .0) j p)) in
+      (λ j p a. placed V2 d (fit .cell) .words j (a .0, rw (length-padded (size d) bs (fit .room)) at (a .1)) (kept-words i (b .is item .0) j p)) in
       let apart : (j : ℕ) → In o 2 j → ¬ Own (bits d) j = (λ j p w. let z = bits-below d j (fit .cell) w in omega arith) in
       let room : o + 2 ≤ length under = omega (arith, b .is item .0, length-lay m (offset d) come, long) in
       ap (λ (x : Signed). wordAt (touchedAll gone come (amending x (bits d)) under) o) same
@@ -100,11 +102,11 @@ module _ (m : List ℕ) (long : length m ≡ imageLength v2) (d : Cell) (bs : Li
       ∙ word-two under o (amended gone come (wordAt under o)) room
       ∙ ap (amended gone come) (word-out m (offset d) come o (off o (omega arith, omega arith)) (off (o + 1) (omega arith, omega arith)))
 
-  pub word-amended : signature v2 e (stored v2 d bs m) ≡ amended gone come (signature v2 e m)
+  pub word-amended : signature V2 e (stored V2 d bs m) ≡ amended gone come (signature V2 e m)
   unfolding stored
   word-amended = go (counts-view e) (holds e item has .word)
     where
-      go : {y : Signed} → Counts e y → signatureWord d ≡ y → wordKept y (stored v2 d bs m) ≡ amended gone come (wordKept y m)
+      go : {y : Signed} → Counts e y → signatureWord d ≡ y → wordKept y (stored V2 d bs m) ≡ amended gone come (wordKept y m)
       go (nowhere a) same = absurd (a item)
       go (in-word i b) same = own-word i b same
 
@@ -140,22 +142,22 @@ apart-alike w s a b l =
     let y : s + (65536 - a % 65536) + b ≡ s + c = omega arith in
     rw (x, y) (far-alike w s c l)
 
-module _ (m : List ℕ) (long : length m ≡ imageLength v2) (d : Cell) (bs : List ℕ) (fit : FitStore d bs) where
-  pub store-true : TrueWords m → TrueWords (stored v2 d bs m)
+module _ (m : List ℕ) (long : length m ≡ imageLength V2) (d : Cell) (bs : List ℕ) (fit : FitStore d bs) where
+  pub store-true : TrueWords m → TrueWords (stored V2 d bs m)
   store-true t e item = go (held? d e (fit .cell) item)
     where
-      go : Dec (List·Memᴰ d (cellsOf e)) → signature v2 e (stored v2 d bs m) ≡ fullSum e (stored v2 d bs m)
+      go : Dec (List·Memᴰ d (cellsOf e)) → signature V2 e (stored V2 d bs m) ≡ fullSum e (stored V2 d bs m)
       go (yes has) =
           word-amended m long d bs fit e item has
           ∙ ap (amended (slice (offset d) (size d) m) (padded (size d) bs)) (t e item)
-          ∙ sym (sum-amended v2 m long d bs fit e item has)
-      go (no out) = signature-stays v2 m long d bs fit e item out ∙ t e item ∙ sym (sum-stays v2 m long d bs fit e item out)
+          ∙ sym (sum-amended V2 m long d bs fit e item has)
+      go (no out) = signature-stays V2 m long d bs fit e item out ∙ t e item ∙ sym (sum-stays V2 m long d bs fit e item out)
 
-  pub store-false-by : (e : Cell) → isItem e ≡ true → falseBy e (stored v2 d bs m) ≡ falseBy e m
+  pub store-false-by : (e : Cell) → isItem e ≡ true → falseBy e (stored V2 d bs m) ≡ falseBy e m
   store-false-by e item = go (held? d e (fit .cell) item)
     where
-      go : Dec (List·Memᴰ d (cellsOf e)) → falseBy e (stored v2 d bs m) ≡ falseBy e m
+      go : Dec (List·Memᴰ d (cellsOf e)) → falseBy e (stored V2 d bs m) ≡ falseBy e m
       go (yes has) =
-          rw (word-amended m long d bs fit e item has, sum-amended v2 m long d bs fit e item has)
-          (apart-alike (signature v2 e m) (fullSum e m) (sumOf (slice (offset d) (size d) m)) (sumOf (padded (size d) bs)) (sum-word e m))
-      go (no out) = rw (signature-stays v2 m long d bs fit e item out, sum-stays v2 m long d bs fit e item out)
+          rw (word-amended m long d bs fit e item has, sum-amended V2 m long d bs fit e item has)
+          (apart-alike (signature V2 e m) (fullSum e m) (sumOf (slice (offset d) (size d) m)) (sumOf (padded (size d) bs)) (sum-word e m))
+      go (no out) = rw (signature-stays V2 m long d bs fit e item out, sum-stays V2 m long d bs fit e item out)

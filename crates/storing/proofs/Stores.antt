@@ -14,7 +14,8 @@ use Rattle.laws.proofs.Bytes.{In, length-lay, lay-out, lay-in, slice-same, slic
 use Rattle.laws.proofs.Bits.{bit-set, bit-kept, with-bit-small}
 use Rattle.image.specs.declared.cell.Cell.{Cell}
 use Rattle.image.specs.declared.cell.Cell.the-variants.{Errors, Part}
-use Rattle.image.specs.Version.{Version, imageLength}
+use Rattle.image.specs.declared.version.Version.{Version}
+use Rattle.image.specs.Version.{imageLength}
 use Rattle.image.specs.Cell.{offset, size, extent}
 use Rattle.image.specs.Words.{words, wordOffset, tableWord}
 use Rattle.image.proofs.Cells.{one-cell, placed, InSpans, word-inside, table-words, extent-view, size-some, part-few}

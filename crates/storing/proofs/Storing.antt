@@ -15,7 +15,8 @@ use Rattle.image.specs.declared.cell.Cell.{Cell}
 use Rattle.image.specs.declared.cell.Cell.the-variants.{Mask, Mode, Clock, Constants, Errors, Part, Table}
 use Rattle.image.specs.declared.cell.Signed.{Signed}
 use Rattle.image.specs.declared.cell.Signed.the-variants.{Nowhere, At}
-use Rattle.image.specs.Version.{v2, current, imageLength}
+use Rattle.image.specs.declared.version.Version.the-variants.{V2}
+use Rattle.image.specs.Version.{current, imageLength}
 use Rattle.image.specs.Cell.{offset, size, isCell, isItem}
 use Rattle.image.specs.Words.{signatureWord}
 use Rattle.image.proofs.Cells.{placed}
@@ -80,7 +81,7 @@ amend-early : (old new : List ℕ) (d : Cell) (m bs : List ℕ) → isCell d ≡
     → lay (touchedAll old new (amending (signatureWord d) []) m) (offset d) bs ≡ touchedAll old new (amending (signatureWord d) []) (lay m (offset d) bs)
 amend-early old new d m bs h n =
     touched-lay old new (amending (signatureWord d) []) m (offset d) bs
-    (λ i a w. no-touch-in-cell v2 d d h h i (a .0, rw n at (a .1)) (own-first (signatureWord d) (bits d) i w))
+    (λ i a w. no-touch-in-cell V2 d d h h i (a .0, rw n at (a .1)) (own-first (signatureWord d) (bits d) i w))
 
 -- ---- the cell's bytes
 

@@ -15,7 +15,9 @@ use Rattle.image.specs.declared.cell.Cell.{Cell}
 use Rattle.image.specs.declared.cell.Cell.the-variants.{Mask, Mode, Clock, Constants, Errors, Part, Table}
 use Rattle.image.specs.declared.cell.Signed.{Signed}
 use Rattle.image.specs.declared.cell.Signed.the-variants.{Nowhere, At}
-use Rattle.image.specs.Version.{Version, v1, v2, imageLength}
+use Rattle.image.specs.declared.version.Version.{Version}
+use Rattle.image.specs.declared.version.Version.the-variants.{V1, V2}
+use Rattle.image.specs.Version.{imageLength}
 use Rattle.image.specs.Cell.{isCell, offset, size}
 use Rattle.image.specs.Words.{words, wordOffset, keptOffset, tableWord}
 use Rattle.image.proofs.Cells.{InSpans, word-inside, table-words, table-word-inside, placed, part-numbers}
@@ -226,18 +228,18 @@ module _ (c d : Cell) (h : isCell c ≡ true) (g : isCell d ≡ true) where
 -- ---- all touches of a version
 
 pub touches-agree : (v : Version) (c d : Cell) → isCell c ≡ true → isCell d ≡ true → AgreeAll (touches v c) (touches v d)
-touches-agree v1 c d h g = bits-agree c d
-touches-agree v2 c d h g = amends-agree c d h g (counts-view c) (counts-view d)
+touches-agree V1 c d h g = bits-agree c d
+touches-agree V2 c d h g = amends-agree c d h g (counts-view c) (counts-view d)
 
 -- each is of a word
 pub touches-low : (v : Version) (d : Cell) (i : ℕ) → isCell d ≡ true → Own (touches v d) i → InSpans (words v) i
-touches-low v1 d i h w = let (k, l, a) = bits-low d i h w in table-words v1 k l i a
-touches-low v2 d i h w = go (counts-view d) w
+touches-low V1 d i h w = let (k, l, a) = bits-low d i h w in table-words V1 k l i a
+touches-low V2 d i h w = go (counts-view d) w
   where
-    of-bits : Own (bits d) i → InSpans (words v2) i
-    of-bits w = let (k, l, a) = bits-low d i h w in table-words v2 k l i a
+    of-bits : Own (bits d) i → InSpans (words V2) i
+    of-bits w = let (k, l, a) = bits-low d i h w in table-words V2 k l i a
 
-    go : {x : Signed} → Counts d x → Own (amending x (bits d)) i → InSpans (words v2) i
+    go : {x : Signed} → Counts d x → Own (amending x (bits d)) i → InSpans (words V2) i
     go (nowhere a) w = of-bits w
     go (in-word j a) (inl w) = kept-words j (a .held h .0) i w
     go (in-word j a) (inr w) = of-bits w
@@ -289,21 +291,21 @@ room : (v : Version) (m : List ℕ) → length m ≡ imageLength v → (k : ℕ)
 room v m l k a = rw l (table-word-inside v k a)
 
 module _ (o n m : List ℕ) where
-  amended-after : (d : Cell) (j : ℕ) {x : Signed} → Counts d x → isCell d ≡ true → j < 16 → length m ≡ imageLength v2
+  amended-after : (d : Cell) (j : ℕ) {x : Signed} → Counts d x → isCell d ≡ true → j < 16 → length m ≡ imageLength V2
       → WordAfter d j (tableWord m j) (tableWord (touchedAll o n (amending x (bits d)) m) j)
-  amended-after d j (nowhere a) h b l = bits-after o n m d j h (room v2 m l)
+  amended-after d j (nowhere a) h b l = bits-after o n m d j h (room V2 m l)
   amended-after d j (in-word i a) h b l =
       let m′ = touched o n (amendAt (keptOffset i)) m in
-      rw (amend-apart o n m i j b) at (bits-after o n m′ d j h (room v2 m′ (one-length o n (amendAt (keptOffset i)) m ∙ l)))
+      rw (amend-apart o n m i j b) at (bits-after o n m′ d j h (room V2 m′ (one-length o n (amendAt (keptOffset i)) m ∙ l)))
 
   pub word-after : (v : Version) (d : Cell) (j : ℕ) → isCell d ≡ true → j < 16 → length m ≡ imageLength v
       → WordAfter d j (tableWord m j) (tableWord (touchedAll o n (touches v d) m) j)
-  word-after v1 d j h b l = bits-after o n m d j h (room v1 m l)
-  word-after v2 d j h b l = amended-after d j (counts-view d) h b l
+  word-after V1 d j h b l = bits-after o n m d j h (room V1 m l)
+  word-after V2 d j h b l = amended-after d j (counts-view d) h b l
 
   pub own-word : (v : Version) (k p : ℕ) → k < 16 → length m ≡ imageLength v
       → tableWord (touchedAll o n (touches v (Part k p)) m) k ≡ withBit (tableWord m k) p
-  own-word v1 k p a l = own-bit-set o n m k p (room v1 m l k a)
-  own-word v2 k p a l =
+  own-word V1 k p a l = own-bit-set o n m k p (room V1 m l k a)
+  own-word V2 k p a l =
       let t = amendAt (keptOffset k) in
-      own-bit-set o n (touched o n t m) k p (rw (one-length o n t m) (room v2 m l k a)) ∙ ap (λ (w : ℕ). withBit w p) (amend-apart o n m k k a)
+      own-bit-set o n (touched o n t m) k p (rw (one-length o n t m) (room V2 m l k a)) ∙ ap (λ (w : ℕ). withBit w p) (amend-apart o n m k k a)

@@ -11,7 +11,8 @@ use Rattle.image.specs.declared.cell.Cell.{Cell}
 use Rattle.image.specs.declared.cell.Cell.the-variants as Cells
 use Rattle.image.specs.declared.cell.Signed.{Signed}
 use Rattle.image.specs.declared.cell.Signed.the-variants.{Nowhere, At}
-use Rattle.image.specs.Version.{Version, v1, v2}
+use Rattle.image.specs.declared.version.Version.{Version}
+use Rattle.image.specs.declared.version.Version.the-variants.{V1, V2}
 use Rattle.image.specs.Cell.{offset, size, extent, isCell}
 use Rattle.image.specs.Words.{wordOffset, signatureWord}
 
@@ -54,8 +55,8 @@ amending (At o) ts = amendAt o ∷ ts
 
 -- all that changes along with a cell
 abbrev pub touches : Version → Cell → List Touch
-touches v1 d = bits d
-touches v2 d = amending (signatureWord d) (bits d)
+touches V1 d = bits d
+touches V2 d = amending (signatureWord d) (bits d)
 
 -- bytes stored in a cell, padded with 0 to its size, so that no old row stays behind a shorter error table
 unfoldable pub stored : Version → Cell → List ℕ → List ℕ → List ℕ

@@ -2,6 +2,7 @@
 mod signature;
 mod stored;
 
+pub use signature::full_sum;
 pub use signature::signature_of;
 pub use signature::sum;
 pub use stored::store;

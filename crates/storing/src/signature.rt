@@ -6,9 +6,10 @@ ghost use mathlib.Core.Path.{_≡_};
 ghost use Prim.Native.Nat.{_%_, _≤_};
 ghost use lib.ListN.{length};
 ghost use Rattle.laws.specs.Bytes.{sumOf};
+ghost use Rattle.image.specs.declared.version.Version.the-variants.{V1};
 ghost use Rattle.image.specs.Version.{current, imageLength};
 ghost use Rattle.image.specs.Cell.{isItem};
-ghost use Rattle.storing.specs.Signature.{signature};
+ghost use Rattle.storing.specs.Signature.{fullSum, signature};
 
 // The sum behind it, remainder by 65,536.
 pub fn sum(item: &[u8]) -> u16
@@ -22,6 +23,16 @@ pub fn sum(item: &[u8]) -> u16
         i += 1;
     }
     (total % 65536) as u16
+}
+
+// An item's, added up from its bytes in an image of either version.
+pub fn full_sum(cell: Cell, m: &[u8]) -> u16
+    requires { ⌜ (isItem cell ≡ true) × (imageLength V1 ≤ length (now m)) ⌝ }
+    ensures { λ r. ⌜ r ≡ fullSum cell (now (m .entry)) ⌝ }
+{
+    let start = cell.offset();
+    let end = start + cell.size();
+    sum(&m[start..end])
 }
 
 // The word as it stands, true or false: no byte of the item is read.

@@ -2,6 +2,7 @@
 use crate::print;
 use image::Cell;
 use image::Named;
+use image::Version;
 use output::Cursor;
 
 pub(crate) fn put(image: &mut [u8], at: usize, bytes: &[u8]) {
@@ -55,8 +56,26 @@ pub(crate) fn list(image: &[u8], from: usize) {
     }
 }
 
-pub(crate) fn usable(image: &[u8]) {
-    print::start(if image::is_usable(image) { 1 } else { 0 });
+// In version 1 where that is asked, else in the block's own.
+pub(crate) fn usable(image: &[u8], version: u8) {
+    let asked = if version == 1 {
+        Version::V1
+    } else {
+        Version::CURRENT
+    };
+    print::start(if image::is_usable(image, asked) { 1 } else { 0 });
+}
+
+// To version 2 or to version 1, into the first n bytes of another buffer; the number.
+pub(crate) fn moved(image: &[u8], version: u8, n: usize, second: &mut [u8]) {
+    if second.len() < n {
+        return;
+    }
+    match version {
+        1 => print::start(versions::move_down(image, &mut second[0..n]) as usize),
+        2 => print::start(versions::move_up(image, &mut second[0..n]) as usize),
+        _ => {}
+    }
 }
 
 pub(crate) fn held(image: &[u8], table: u32) {

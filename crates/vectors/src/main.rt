@@ -20,5 +20,6 @@ fn main() {
     let mut text = [0u8; CASES_ROOM];
     let n = io::read_full(STDIN_FILENO, &mut text);
     let mut image = [0u8; LONGER];
-    steps::lines(&text[..n], &mut image);
+    let mut second = [0u8; LONGER];
+    steps::lines(&text[..n], &mut image, &mut second);
 }

@@ -7,12 +7,13 @@ use crate::script;
 use image::IMAGE_LENGTH;
 use rules::Switch;
 
-// Between two stops of a line: whether text has begun, whether there was any, how much of the image buffer the next step is lent, and how the key
-// switch stands.
+// Between two stops of a line: whether text has begun, whether there was any, how much of the image buffer the next step is lent, whether it has changed
+// places with the second one, and how the key switch stands.
 pub struct Turn {
     pub text: bool,
     pub bare: bool,
     pub long: usize,
+    pub turned: bool,
     pub switch: Switch,
 }
 
@@ -29,15 +30,16 @@ fn call(letter: u8, number: u32, bytes: &[u8], a: u8, b: u8, switch: Switch, ima
         b'm' => images::mark(image, a, b),
         b'n' => print::start(izk::fresh(image, a) as usize),
         b't' => images::total(image, n),
-        b'u' => images::usable(image),
+        b'u' => images::usable(image, a),
         _ => answers::answer_into(letter, bytes, switch, n, image),
     }
 }
 
 // A step, with what it changes for those behind it in its line.
-fn run(s: &[u8], mut turn: Turn, image: &mut [u8]) -> Turn {
+fn run(s: &[u8], mut turn: Turn, image: &mut [u8], second: &mut [u8]) -> Turn {
     let bare = turn.bare;
     let long = turn.long;
+    let turned = turn.turned;
     let switch = turn.switch;
     if image.len() < long {
         return turn;
@@ -59,6 +61,7 @@ fn run(s: &[u8], mut turn: Turn, image: &mut [u8]) -> Turn {
                 text: false,
                 bare,
                 long,
+                turned,
                 switch: if a == 1 {
                     Switch::Sealed
                 } else {
@@ -66,6 +69,7 @@ fn run(s: &[u8], mut turn: Turn, image: &mut [u8]) -> Turn {
                 },
             };
         }
+        b'e' => turn.turned = !turned,
         b'l' => turn.long = number as usize,
         b'p' => images::put(image, number as usize, bytes),
         b'w' => script::fill(image, a),
@@ -73,7 +77,10 @@ fn run(s: &[u8], mut turn: Turn, image: &mut [u8]) -> Turn {
             if !bare {
                 print::text(b" = ");
             }
-            call(letter, number, bytes, a, b, switch, &mut image[0..long]);
+            match letter {
+                b'v' => images::moved(&image[0..long], a, number as usize, second),
+                _ => call(letter, number, bytes, a, b, switch, &mut image[0..long]),
+            }
         }
     }
     turn
@@ -84,12 +91,13 @@ fn line_start() -> Turn {
         text: false,
         bare: false,
         long: IMAGE_LENGTH,
+        turned: false,
         switch: Switch::Unsealed,
     }
 }
 
 // The text or the step before a stop, and the stop.
-fn piece(s: &[u8], stop: u8, mut turn: Turn, image: &mut [u8]) -> Turn {
+fn piece(s: &[u8], stop: u8, mut turn: Turn, image: &mut [u8], second: &mut [u8]) -> Turn {
     let text = turn.text;
     let bare = turn.bare;
     if stop == b'|' {
@@ -103,7 +111,7 @@ fn piece(s: &[u8], stop: u8, mut turn: Turn, image: &mut [u8]) -> Turn {
     if !bare {
         print::text(s);
     }
-    let after = run(s, turn, image);
+    let after = run(s, turn, image, second);
     if stop == b';' {
         if !bare {
             print::text(b";");
@@ -114,8 +122,17 @@ fn piece(s: &[u8], stop: u8, mut turn: Turn, image: &mut [u8]) -> Turn {
     line_start()
 }
 
+// The buffers in the places that they have now.
+fn piece_of(s: &[u8], stop: u8, turn: Turn, image: &mut [u8], second: &mut [u8]) -> Turn {
+    if turn.turned {
+        piece(s, stop, turn, second, image)
+    } else {
+        piece(s, stop, turn, image, second)
+    }
+}
+
 // Every line has its end.
-pub(crate) fn lines(script: &[u8], image: &mut [u8]) {
+pub(crate) fn lines(script: &[u8], image: &mut [u8], second: &mut [u8]) {
     let mut turn = line_start();
     let mut from = 0;
     while from < script.len() {
@@ -123,7 +140,7 @@ pub(crate) fn lines(script: &[u8], image: &mut [u8]) {
         if stop == script.len() {
             return;
         }
-        turn = piece(&script[from..stop], script[stop], turn, image);
+        turn = piece_of(&script[from..stop], script[stop], turn, image, second);
         from = stop + 1;
     }
 }

@@ -33,6 +33,9 @@ slice-write-m-3 c = simp length-set (omega arith)
 slice-write-m-4 : tie.Need-slice-write-m-4
 slice-write-m-4 c = simp length-set (omega arith)
 
+number-requires : tie.Need-number-requires
+number-requires c κs = search needs
+
 slice-write-m-5 : tie.Need-slice-write-m-5
 slice-write-m-5 c = simp length-set (omega arith)
 
@@ -45,10 +48,10 @@ same-length c = search needs
 returns-3 : tie.Need-returns-3
 unfolding freshened judged
 returns-3 c =
-    let t = c .before .before .before .before in
+    let t = c .before .before .before .before .before in
     let m = t .before .before .before .args .m .now in
-    rw (eq-eqb _ _ (t .before .if1 .left), ne-eqb _ _ (t .if2 .left))
-    (record { number-is = refl; image-is = fresh-is _ m _ (t .before .if1 .left) (c .before .before .clear .ensures) })
+    rw (eq-eqb _ _ (t .before .if1 .left), ne-eqb _ _ (t .if2 .left), c .number .ensures)
+    (record { number-is = refl; image-is = fresh-is _ m _ (t .before .if1 .left) (c .before .before .before .clear .ensures) })
 
 pub freshen-spec : {M : Type 1} → statement M
 freshen-spec =
@@ -61,6 +64,7 @@ freshen-spec =
     slice-write-m-2
     slice-write-m-3
     slice-write-m-4
+    number-requires
     slice-write-m-5
     slice-write-m-6
     same-length

@@ -37,13 +37,16 @@ returns-4 c = simp (ne-eqb _ _ (c .if4 .taken), and-false)
 shared-slice-read-result : tie.Need-shared-slice-read-result
 shared-slice-read-result c = search needs
 
+number-requires : tie.Need-number-requires
+number-requires c κs = search needs
+
 returns-5 : tie.Need-returns-5
 unfolding markOk
 returns-5 c =
-    let f = c .before in
+    let f = c .before .before in
     let e = f .before .before in
     let d = e .before .before in
-    rw (d .before .before .if1 .left, d .if2 .left, e .if3 .left, f .if4 .left)
+    rw (d .before .before .if1 .left, d .if2 .left, e .if3 .left, f .if4 .left, c .number .ensures)
 
 pub mark-ok-spec : {M : Type 1} → statement M
 mark-ok-spec =
@@ -58,4 +61,5 @@ mark-ok-spec =
     shared-slice-read-if4
     returns-4
     shared-slice-read-result
+    number-requires
     returns-5)

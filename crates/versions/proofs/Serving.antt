@@ -1,0 +1,78 @@
+-- A block of version 1 before a move and one of version 2 after it answer every frame alike, under one set of frame rules, and moving commutes with
+-- serving. Assumes nothing.
+use mathlib.Core.Path.{_≡_, refl, sym}
+use mathlib.Core.List.{List}
+use mathlib.Core.Bool.{true}
+use Prim.Native.Nat.{ℕ}
+use Rattle.reorder.specs.Reorder.{outcomes}
+use Rattle.image.specs.declared.version.Version.the-variants.{V1, V2}
+use Rattle.image.specs.Usable.{usable, address}
+use Rattle.storing.specs.Signature.{TrueWords}
+use Rattle.rules.specs.declared.switch.Switch.{Switch}
+use Rattle.izk.specs.Heard.{Hearing, Lawful}
+use Rattle.izk.specs.Since.{Turn, inTurn, left}
+use Rattle.izk.proofs.Serving.{usable-stays}
+use Rattle.izk.proofs.Turns.{by-turns}
+use Rattle.kept.specs.Same.{AsksTrue, asked}
+use Rattle.kept.proofs.Truth.{stays-true}
+use Rattle.kept.proofs.Alike.{numbers-alike, stays-like, told-alike, turn-alike, stays-same, answers-alike}
+use Rattle.versions.specs.Moved.{inVersion}
+use Rattle.versions.proofs.Words.{summed, call-low}
+use Rattle.versions.proofs.RoundTrip.{up-like, up-true, up-same, up-low, down-like, down-same, down-is, up-is}
+
+-- whatever hears the frames, in either position of the switch: the same for both blocks
+module _ (ear : Switch → Hearing) (ok : (s : Switch) → Lawful (ear s)) where
+  -- ---- after a move up
+
+  module _ (m : List ℕ) (u : usable V1 m ≡ true) where
+    -- number, length and whole output
+    pub up-answers : (x : Turn) → asked ear V1 m x .0 ≡ asked ear V2 (inVersion V2 m) x .0
+    up-answers x = turn-alike m (inVersion V2 m) (up-same m u) ear ok x
+
+    -- moved and served, or served and moved
+    pub up-commutes : (x : Turn) → inTurn ear V2 (inVersion V2 m) x .image ≡ inVersion V2 (inTurn ear V1 m x .image)
+    up-commutes x =
+        let n = inVersion V2 m in
+        let s = stays-same m n (up-same m u) ear ok x in
+        sym (up-is (inTurn ear V1 m x .image) (inTurn ear V2 n x .image) (s .like) (summed _ (s .words) (call-low ear ok n x (up-low m u))))
+
+    -- and so for every list of frames
+    pub up-answers-all : (xs : List Turn) → outcomes (asked ear V1) m xs ≡ outcomes (asked ear V2) (inVersion V2 m) xs
+    up-answers-all xs = answers-alike ear ok m (inVersion V2 m) (up-same m u) xs
+
+    -- from there on every word is true
+    pub up-stays-true : (xs : List Turn) → TrueWords (left ear V2 (inVersion V2 m) xs)
+    up-stays-true xs = stays-true ear ok (inVersion V2 m) xs (up-true m u)
+
+  pub up-commutes-all : (m : List ℕ) (xs : List Turn) → usable V1 m ≡ true → left ear V2 (inVersion V2 m) xs ≡ inVersion V2 (left ear V1 m xs)
+  unfolding left
+  up-commutes-all =
+      by-turns ear ok V1 (λ m xs m′. usable V1 m ≡ true → left ear V2 (inVersion V2 m) xs ≡ inVersion V2 m′) (λ m u. refl)
+      (λ m x xs m′ h u. rw (up-commutes m u x) (h (usable-stays (ear (x .switch)) (ok (x .switch)) V1 (x .frame) m (x .out) u)))
+
+  -- ---- after a move down
+
+  module _ (n : List ℕ) (u : usable V2 n ≡ true) where
+    -- where the words were true
+    pub down-answers : (x : Turn) → TrueWords n → asked ear V2 n x .0 ≡ asked ear V1 (inVersion V1 n) x .0
+    down-answers x t = sym (turn-alike (inVersion V1 n) n (down-same n u t) ear ok x)
+
+    -- where some are false, every frame that asks for none of these
+    pub down-answers-but : (x : Turn) → AsksTrue (ear (x .switch) (address n) (x .frame)) n → asked ear V2 n x .0 ≡ asked ear V1 (inVersion V1 n) x .0
+    down-answers-but x t = sym (told-alike (inVersion V1 n) n (down-like n u) ear ok x t)
+
+    pub down-answers-all : (xs : List Turn) → TrueWords n → outcomes (asked ear V2) n xs ≡ outcomes (asked ear V1) (inVersion V1 n) xs
+    down-answers-all xs t = sym (answers-alike ear ok (inVersion V1 n) n (down-same n u t) xs)
+
+    -- whatever the words say: the number, and what is left
+    pub down-numbers : (x : Turn) → inTurn ear V2 n x .number ≡ inTurn ear V1 (inVersion V1 n) x .number
+    down-numbers x = sym (numbers-alike (inVersion V1 n) n (down-like n u) ear ok x)
+
+    pub down-commutes : (x : Turn) → inTurn ear V1 (inVersion V1 n) x .image ≡ inVersion V1 (inTurn ear V2 n x .image)
+    down-commutes x = sym (down-is _ _ (stays-like (inVersion V1 n) n (down-like n u) ear ok x))
+
+  pub down-commutes-all : (n : List ℕ) (xs : List Turn) → usable V2 n ≡ true → left ear V1 (inVersion V1 n) xs ≡ inVersion V1 (left ear V2 n xs)
+  unfolding left
+  down-commutes-all =
+      by-turns ear ok V2 (λ n xs n′. usable V2 n ≡ true → left ear V1 (inVersion V1 n) xs ≡ inVersion V1 n′) (λ n u. refl)
+      (λ n x xs n′ h u. rw (down-commutes n u x) (h (usable-stays (ear (x .switch)) (ok (x .switch)) V2 (x .frame) n (x .out) u)))
