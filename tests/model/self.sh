@@ -110,6 +110,15 @@ planted 'a signature not amended' '^FAILED probe script [0-9]+ \(signatures, eac
 planted 'a false signature summed anew' '^FAILED probe script [0-9]+ \(signatures, as they stand\)' probe - "sed '2s/^\(S 0 15 4156032078\) .*/\1 2031877812/'"
 # Part 3 of table 12 is written, and behind it table 2 is asked.
 planted "table 12's signature at table 2's place" '^  at       piece :013D02C0' desk - "sed '1{/^0 :013B0C03B5\$/{n;s/^0 :013D020000C0\$/0 :013D0212347A/}}'"
+# In the first script with moves an image is written by 52 frames behind its own line. Then it is moved down, asked a mask, which is refused, and
+# moved up twice, first into the buffer that it came from; then all its words become others, and it is moved down and up.
+planted 'a wrong number of a move up' '^  got      U 1 [0-9]+ [0-9]+<0A>' probe - "sed '57s/^U 0 /U 1 /'"
+planted 'a move up left out' '^  at       record U \(image 23753, second 23817\)' probe - "sed '57{/^U 0 /d}'"
+planted 'a source changed by a move up' '^FAILED probe script [0-9]+ \(moves\)' probe - "sed '57s/^U 0 ./&9/'"
+planted 'a wrong second digest of a move down' '^FAILED probe script [0-9]+ \(moves\)' probe - "sed '54{/^D 0 /{s/9\$/8/;t;s/[0-8]\$/9/}}'"
+planted 'false words refused by a move down' '^  got      D 1 [0-9]+ [0-9]+<0A>' probe - "sed '58s/^D 0 /D 1 /'"
+# The first script of refusals begins with an image of the other version.
+planted 'a target changed by a refused move' '^FAILED probe script [0-9]+ \(moves refused\)' probe - "sed '1{/^U 1 /{s/9\$/8/;t;s/[0-8]\$/9/}}'"
 planted 'a bad end of the probe' 'ended with exit status: 3$' probe 3 cat
 wait
 passed=0

@@ -1,8 +1,13 @@
 //! The rules of the block: frames, the image, and the fourteen commands.
 //!
 //! Five things are public: `serve`, `take_apart`, `build`, `fresh` and
-//! `held_parts`. Each takes every input. What is refused changes no buffer,
-//! so every check of a command stands before its first write.
+//! `held_parts`, and beside them the two moves of wish 8. Each takes every
+//! input. What is refused changes no buffer, so every check of a command stands
+//! before its first write.
+
+mod moves;
+
+pub use self::moves::{move_down, move_up};
 
 use std::ops::{Range, RangeInclusive};
 
@@ -15,7 +20,6 @@ const CONTENTS_MIN: usize = 2;
 const CONTENTS_MAX: usize = BODY_MAX - 1;
 
 // Places in the image.
-const HEAD: [u8; 5] = *b"IZK\x00\x02"; // mark and version
 const ADDRESS: usize = 5;
 const MASK: usize = 6;
 const MODE: usize = 7;
@@ -25,6 +29,25 @@ const CONSTANTS: usize = 49;
 const ERRORS: usize = 713;
 const TABLES: usize = 1225;
 const SIGNATURES: usize = 23_753;
+
+/// A version of the image: its mark and number, as they stand at the start, and
+/// its length.
+struct Version {
+    head: [u8; 5],
+    bytes: usize,
+}
+
+/// Document 01's, without signatures. Only the moves know it (document 02, wish
+/// 8).
+const FIRST: Version = Version {
+    head: *b"IZK\x00\x01",
+    bytes: SIGNATURES,
+};
+/// The version of today, which is served (document 02, wish 7).
+const SECOND: Version = Version {
+    head: *b"IZK\x00\x02",
+    bytes: IMAGE_BYTES,
+};
 
 // Document 02, wish 7: the signatures of the tables come first. So many stand
 // before those of the constants, and so many before those of the error tables.
@@ -159,7 +182,7 @@ pub fn fresh(image: &mut [u8], address: u8) -> Result<(), Refusal> {
         return Err(Refusal::Value);
     }
     image.fill(0);
-    image[..HEAD.len()].copy_from_slice(&HEAD);
+    image[..SECOND.head.len()].copy_from_slice(&SECOND.head);
     image[ADDRESS] = address;
     Ok(())
 }
@@ -177,11 +200,15 @@ pub fn held_parts(image: &[u8], table: u32) -> Result<(u32, u32), Refusal> {
     Ok((word.count_ones(), missing))
 }
 
+fn usable(image: &[u8]) -> bool {
+    usable_in(&SECOND, image)
+}
+
 /// Only what later steps rely on is judged: length, head, counts and the words
 /// of parts held. A signature may be anything; it is answered as it stands.
-fn usable(image: &[u8]) -> bool {
-    image.len() == IMAGE_BYTES
-        && image[..HEAD.len()] == HEAD
+fn usable_in(version: &Version, image: &[u8]) -> bool {
+    image.len() == version.bytes
+        && image.starts_with(&version.head)
         && image[ADDRESS] != 0
         && (0..16).all(|table| held_word(image, table) <= ALL_PARTS)
         && (0..8).all(|table| image[ERRORS + table * ERRORS_BYTES] <= ROWS_MAX)

@@ -134,7 +134,7 @@ pub fn desk_calls(input: &[u8], drawn: bool, mut show: impl FnMut(&Came)) -> Vec
         let line = desk.step(piece);
         let number = number_in(&line, 0);
         show(&Came {
-            call: 'D',
+            call: 'd',
             drawn,
             input: piece,
             number,
@@ -142,9 +142,11 @@ pub fn desk_calls(input: &[u8], drawn: bool, mut show: impl FnMut(&Came)) -> Vec
             reply: line.strip_prefix("0 ").unwrap_or_default().as_bytes(),
             image_before: &image_before,
             image: desk.image(),
+            second_before: &[],
+            second: &[],
             before: before.as_ref(),
         });
-        before = Some(('D', number, piece.to_vec()));
+        before = Some(('d', number, piece.to_vec()));
         lines.push(line);
     }
     lines
@@ -157,6 +159,10 @@ pub fn probe_calls(script: &[u8], drawn: bool, mut show: impl FnMut(&Came)) -> V
     let mut before: Option<Before> = None;
     for record in Records::new(script) {
         let image_before = probe.image().to_vec();
+        let second_before = match record {
+            Record::MoveUp | Record::MoveDown => probe.second().to_vec(),
+            _ => Vec::new(),
+        };
         let Some(line) = probe.step(record) else {
             continue;
         };
@@ -171,6 +177,8 @@ pub fn probe_calls(script: &[u8], drawn: bool, mut show: impl FnMut(&Came)) -> V
                 reply: probe.reply(),
                 image_before: &image_before,
                 image: probe.image(),
+                second_before: &second_before,
+                second: probe.second(),
                 before: before.as_ref(),
             });
             before = Some((call, number, input));
@@ -188,6 +196,8 @@ fn call_of(record: Record) -> Option<(char, Vec<u8>)> {
         Record::Build(contents) => ('B', contents.to_vec()),
         Record::Fresh(address) => ('F', vec![address]),
         Record::Held(table) => ('H', table.to_be_bytes().to_vec()),
+        Record::MoveUp => ('U', Vec::new()),
+        Record::MoveDown => ('D', Vec::new()),
         _ => return None,
     })
 }
@@ -210,7 +220,13 @@ fn describe(script: &[u8], line: usize) -> String {
         }
         if printed == line {
             let (image, output) = (probe.image_length, probe.output_length);
-            return format!("record {} (image {image}, output {output})", spell(record));
+            let lengths = match record {
+                Record::MoveUp | Record::MoveDown => {
+                    format!("image {image}, second {}", probe.second_length)
+                }
+                _ => format!("image {image}, output {output}"),
+            };
+            return format!("record {} ({lengths})", spell(record));
         }
         printed += 1;
     }
@@ -224,6 +240,8 @@ fn spell(record: Record) -> String {
         Record::TakeApart(bytes) => format!("T {}", printable(bytes)),
         Record::Build(bytes) => format!("B {}", printable(bytes)),
         Record::Held(table) => format!("H {table}"),
+        Record::MoveUp => "U".to_string(),
+        Record::MoveDown => "D".to_string(),
         _ => "that is broken".to_string(),
     }
 }

@@ -1,6 +1,7 @@
 //! Counts of what the differential test reached, and what it must reach.
 
 mod checksum;
+mod moves;
 mod sealed;
 mod signatures;
 mod temperatures;
@@ -18,16 +19,18 @@ type Call = (char, &'static str, &'static [u8]);
 /// The calls that are given a frame. Their numbers must come up for frames
 /// with a small letter as well.
 const OF_FRAMES: [Call; 4] = [
-    ('D', "desk", &[0, 3, 4, 5, 6, 7, 8, 9, 10, 11]),
+    ('d', "desk", &[0, 3, 4, 5, 6, 7, 8, 9, 10, 11]),
     ('S', "serve", &[0, 1, 2, 3, 4, 5, 6, 7, 8, 9, 10, 11]),
     ('K', "sealed", &[0, 1, 2, 3, 4, 5, 6, 7, 8, 9, 10, 16]),
     ('T', "take apart", &[0, 2, 3, 4, 5, 6]),
 ];
 
-const OTHERS: [Call; 3] = [
+const OTHERS: [Call; 5] = [
     ('B', "build", &[0, 2, 3]),
     ('F', "fresh", &[0, 1, 11]),
     ('H', "held parts", &[0, 1, 10]),
+    ('U', "move up", &[0, 1]),
+    ('D', "move down", &[0, 1]),
 ];
 
 /// The numbers that can come up; those between belong to wishes to come.
@@ -36,15 +39,16 @@ const NUMBERS: [u8; 13] = [0, 1, 2, 3, 4, 5, 6, 7, 8, 9, 10, 11, 16];
 /// The frames served unsealed that are counted by command: by call, and
 /// whether a letter of theirs is small.
 const SERVED: [(char, bool, &str); 4] = [
-    ('D', false, "desk, none small"),
+    ('d', false, "desk, none small"),
     ('S', false, "serve, none small"),
-    ('D', true, "desk, a small one"),
+    ('d', true, "desk, a small one"),
     ('S', true, "serve, a small one"),
 ];
 
 /// A call as it came up in a run.
 pub struct Came<'a> {
-    /// Its letter; D for a piece given to the desk program.
+    /// Its letter; d, with which no record begins, for a piece given to the desk
+    /// program.
     pub call: char,
     /// Whether it is from a stream or script of the seed and no fixed call.
     pub drawn: bool,
@@ -58,6 +62,9 @@ pub struct Came<'a> {
     pub image_before: &'a [u8],
     /// The image after it.
     pub image: &'a [u8],
+    /// If it moved an image, the second buffer before it and after it.
+    pub second_before: &'a [u8],
+    pub second: &'a [u8],
     /// The call before it in its stream or script.
     pub before: Option<&'a Before>,
 }
@@ -97,6 +104,8 @@ enum Thing {
     /// What is counted of the signatures, by whether the call was drawn and by
     /// its command.
     Signature(char, bool, u8, signatures::Kind),
+    /// What is counted of the moves, by whether the call was drawn.
+    Move(char, bool, moves::Kind),
 }
 
 /// How often each thing that the test must reach was reached.
@@ -130,16 +139,17 @@ impl Coverage {
             ..
         } = came;
         self.add(Thing::Number(call, number));
-        if matches!(call, 'D' | 'S' | 'K' | 'T') {
+        if matches!(call, 'd' | 'S' | 'K' | 'T') {
             self.count_letters(call, number, input);
             self.count_sums(call, number, input);
         }
-        if matches!(call, 'D' | 'S') {
+        if matches!(call, 'd' | 'S') {
             self.count_command(call, number, input);
             self.count_temperatures(came);
         }
         self.count_switch(came);
         self.count_signatures(came);
+        self.count_moves(came);
         let seen = (call, input.to_vec(), line.to_string());
         if let Some((_, count)) = self.fixed.get_mut(&seen) {
             *count += 1;
@@ -221,6 +231,7 @@ impl Coverage {
         self.print_misread(out)?;
         self.print_switch(out)?;
         self.print_signatures(out)?;
+        self.print_moves(out)?;
         let fixed = self.fixed.values();
         let wanted: usize = fixed.clone().map(|(rules, _)| rules.len()).sum();
         let came: usize = fixed.map(|(rules, count)| rules.len().min(*count)).sum();
@@ -380,6 +391,7 @@ fn wanted() -> Vec<(Thing, String)> {
     wanted.extend(temperatures::wanted());
     wanted.extend(sealed::wanted());
     wanted.extend(signatures::wanted());
+    wanted.extend(moves::wanted());
     wanted
 }
 

@@ -3,7 +3,9 @@
 //! them, the model is held to them, and a run in which one of them did not
 //! come out as written has failed.
 
+mod buffers;
 mod checksum;
+mod moves;
 mod sealed;
 mod signatures;
 mod small_letters;
@@ -11,9 +13,11 @@ pub mod temperatures;
 
 use std::sync::LazyLock;
 
+use self::buffers::Buffers;
+pub use self::buffers::Change;
 use crate::block::IMAGE_BYTES;
 use crate::items;
-use crate::probe::{digest, IMAGE_ROOM, OUTPUT_ROOM};
+use crate::probe::{digest, OUTPUT_ROOM};
 use crate::streams::{ask, COMMANDS};
 
 /// What the output holds before each call.
@@ -28,15 +32,23 @@ pub struct Step {
     pub rule: &'static str,
     /// The letter of its record in a script of the probe.
     pub letter: char,
-    /// What it is given: a frame, contents, an address or a table's number.
+    /// What it is given: a frame, contents, an address or a table's number; of a
+    /// move nothing.
     pub input: Vec<u8>,
-    /// Bytes changed behind the block's back right before it, and where.
-    pub changed: Vec<(usize, Vec<u8>)>,
+    /// What was changed behind the block's back right before it.
+    pub changed: Vec<Change>,
     number: u8,
     wrote: Vec<u8>,
     stored: Vec<(usize, Vec<u8>)>,
+    moved: Option<Moved>,
     /// Of the held-parts question: how many, and the lowest missing one.
     held: [u8; 2],
+}
+
+/// What a move leaves in the second buffer, beside what it keeps.
+struct Moved {
+    version: u8,
+    words: Vec<u8>,
 }
 
 impl Step {
@@ -49,13 +61,20 @@ impl Step {
             number: 0,
             wrote: Vec::new(),
             stored: Vec::new(),
+            moved: None,
             held: [0, 0],
         }
     }
 
     /// What was changed behind the block's back right before it, and where.
     fn after_change(mut self, offset: usize, bytes: &[u8]) -> Self {
-        self.changed.push((offset, bytes.to_vec()));
+        self.changed.push(Change::Bytes(offset, bytes.to_vec()));
+        self
+    }
+
+    /// All that was changed behind the block's back right before it.
+    fn after(mut self, changes: &[Change]) -> Self {
+        self.changed.extend_from_slice(changes);
         self
     }
 
@@ -86,6 +105,14 @@ impl Step {
     /// them and whose word was true: then it stays true (document 02, wish 7).
     fn signs(self, command: u8, number: u8, bytes: &[u8]) -> Self {
         self.stores(word_of(command, number), &true_word(bytes))
+    }
+
+    /// What it leaves in the second buffer: the image in this version, and these
+    /// words behind it.
+    fn moves(mut self, version: u8, words: &[u8]) -> Self {
+        let words = words.to_vec();
+        self.moved = Some(Moved { version, words });
+        self
     }
 
     /// How many parts are held, and the lowest missing one.
@@ -185,30 +212,24 @@ impl Session {
 
     /// The probe's line for each step, from what is written here alone.
     pub fn probe_lines(&self) -> Vec<String> {
-        let mut image = [0; IMAGE_ROOM];
-        image[..5].copy_from_slice(b"IZK\x00\x02");
-        image[5] = self.address;
+        let mut buffers = Buffers::new(self.address);
+        buffers.change(&Change::Length(self.image_length));
         for &(offset, value) in &self.changed {
-            image[offset] = value;
+            buffers.change(&Change::Bytes(offset, vec![value]));
         }
-        // Taken anew only when a byte may have changed, for it takes long.
-        let mut image_digest = digest(&image[..self.image_length]);
         let mut lines = Vec::new();
         for step in &self.steps {
-            for (offset, bytes) in step.changed.iter().chain(&step.stored) {
-                image[*offset..offset + bytes.len()].copy_from_slice(bytes);
-            }
-            if !step.changed.is_empty() || !step.stored.is_empty() {
-                image_digest = digest(&image[..self.image_length]);
-            }
+            buffers.take(step);
             let mut output = [FILL; OUTPUT_ROOM];
             output[..step.wrote.len()].copy_from_slice(&step.wrote);
             let (letter, number, length) = (step.letter, step.number, step.wrote.len());
             let [parts, missing] = step.held;
             let output = digest(&output[..self.output]);
+            let image = buffers.image();
             lines.push(match letter {
-                'S' | 'K' => format!("{letter} {number} {length} {image_digest} {output}"),
-                'F' => format!("F {number} {image_digest}"),
+                'S' | 'K' => format!("{letter} {number} {length} {image} {output}"),
+                'F' => format!("F {number} {image}"),
+                'U' | 'D' => format!("{letter} {number} {image} {}", buffers.second()),
                 'H' => format!("H {number} {parts} {missing}"),
                 _ => format!("{letter} {number} {length} {output}"),
             });
@@ -217,8 +238,9 @@ impl Session {
     }
 }
 
-/// A call as it comes up in a run: its letter (D for a piece given to the
-/// desk program), what it is given, and the line it prints.
+/// A call as it comes up in a run: its letter (d, with which no record begins,
+/// for a piece given to the desk program), what it is given, and the line it
+/// prints.
 pub type Seen = (char, Vec<u8>, String);
 
 /// Every fixed call with the line it must print, and the rule it shows.
@@ -234,7 +256,7 @@ pub fn wanted() -> Vec<(Seen, String)> {
         }
         if session.stream().is_some() {
             for (step, line) in session.steps.iter().zip(session.desk_lines()) {
-                want('D', step, line);
+                want('d', step, line);
             }
         }
     }
@@ -283,6 +305,7 @@ fn all_sessions() -> Vec<Session> {
     sessions.extend(temperatures::sessions());
     sessions.extend(sealed::sessions());
     sessions.extend(signatures::sessions());
+    sessions.extend(moves::sessions());
     sessions
 }
 

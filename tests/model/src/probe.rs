@@ -1,6 +1,8 @@
 //! The probe program: a script of calls on buffers of any length, so that
-//! what the desk cannot show (numbers 1 and 2, images, untouched output) is
-//! compared as well.
+//! what the desk cannot show (numbers 1 and 2, images, moves from one version
+//! to the other, untouched output) is compared as well.
+
+use std::mem::swap;
 
 use crate::block::{self, Refusal, Switch, IMAGE_BYTES};
 
@@ -17,6 +19,9 @@ pub enum Record<'a> {
         offset: usize,
         value: u8,
     },
+    Fill(u8),
+    /// The image buffer and the second one change places.
+    Exchange,
     Output {
         length: usize,
         fill: u8,
@@ -26,6 +31,8 @@ pub enum Record<'a> {
     TakeApart(&'a [u8]),
     Build(&'a [u8]),
     Held(u32),
+    MoveUp,
+    MoveDown,
     /// An unknown letter, or a record that the script's end cuts off.
     Broken,
 }
@@ -76,6 +83,8 @@ impl<'a> Records<'a> {
                 offset: self.number(3)?,
                 value: self.byte()?,
             },
+            b'W' => Record::Fill(self.byte()?),
+            b'X' => Record::Exchange,
             b'O' => Record::Output {
                 length: self.number(2)?.min(OUTPUT_ROOM),
                 fill: self.byte()?,
@@ -86,6 +95,8 @@ impl<'a> Records<'a> {
             b'T' => Record::TakeApart(self.counted()?),
             b'B' => Record::Build(self.counted()?),
             b'H' => Record::Held(self.number(4)? as u32),
+            b'U' => Record::MoveUp,
+            b'D' => Record::MoveDown,
             _ => return None,
         })
     }
@@ -106,10 +117,12 @@ impl<'a> Iterator for Records<'a> {
     }
 }
 
-/// The two buffers, with the lengths that the calls see of them.
+/// The three buffers, with the lengths that the calls see of them.
 pub struct Probe {
     image: Vec<u8>,
     pub image_length: usize,
+    second: Vec<u8>,
+    pub second_length: usize,
     output: Vec<u8>,
     pub output_length: usize,
 }
@@ -119,6 +132,8 @@ impl Probe {
         Probe {
             image: vec![0; IMAGE_ROOM],
             image_length: IMAGE_BYTES,
+            second: vec![0; IMAGE_ROOM],
+            second_length: IMAGE_BYTES,
             output: vec![0; OUTPUT_ROOM],
             output_length: 269,
         }
@@ -127,6 +142,11 @@ impl Probe {
     /// The image as the calls see it.
     pub fn image(&self) -> &[u8] {
         &self.image[..self.image_length]
+    }
+
+    /// The second buffer as the moves see it.
+    pub fn second(&self) -> &[u8] {
+        &self.second[..self.second_length]
     }
 
     /// What stands in the output before the first 0Dh; after a frame was
@@ -139,6 +159,7 @@ impl Probe {
     /// Carries out a record and gives the line it prints, if it prints one.
     pub fn step(&mut self, record: Record) -> Option<String> {
         let image = &mut self.image[..self.image_length];
+        let second = &mut self.second[..self.second_length];
         let output = &mut self.output[..self.output_length];
         match record {
             Record::ImageLength(length) => self.image_length = length,
@@ -146,6 +167,11 @@ impl Probe {
                 if let Some(byte) = self.image.get_mut(offset) {
                     *byte = value;
                 }
+            }
+            Record::Fill(value) => self.image.fill(value),
+            Record::Exchange => {
+                swap(&mut self.image, &mut self.second);
+                swap(&mut self.image_length, &mut self.second_length);
             }
             Record::Output { length, fill } => {
                 self.output_length = length;
@@ -169,6 +195,14 @@ impl Probe {
                 return Some(format!("B {answer} {}", digest(output)));
             }
             Record::Held(table) => return Some(held(image, table)),
+            Record::MoveUp => {
+                let number = number(&block::move_up(image, second));
+                return Some(format!("U {number} {} {}", digest(image), digest(second)));
+            }
+            Record::MoveDown => {
+                let number = number(&block::move_down(image, second));
+                return Some(format!("D {number} {} {}", digest(image), digest(second)));
+            }
             Record::Broken => return Some("?".to_string()),
         }
         None
@@ -210,8 +244,11 @@ fn number<T>(answer: &Result<T, Refusal>) -> u8 {
 }
 
 /// Short stand-in for a buffer: any changed byte changes it but by chance.
+/// What three bytes make of it stays below 2 to the 64th, so that a remainder
+/// is taken after every third only, for that takes long.
 pub fn digest(bytes: &[u8]) -> u64 {
-    bytes.iter().fold(1, |h, &byte| {
-        (h * 257 + u64::from(byte) + 1) % 4_294_967_291
+    bytes.chunks(3).fold(1, |digest, three| {
+        let with = |h, &byte| h * 257 + u64::from(byte) + 1;
+        three.iter().fold(digest, with) % 4_294_967_291
     })
 }

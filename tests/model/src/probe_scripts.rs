@@ -1,7 +1,9 @@
 //! Scripts for the probe program: first those with a purpose of their own,
 //! then the fixed calls, then broken records, then calls by chance.
 
-use crate::fixed::{self, Session, FILL};
+mod moves;
+
+use crate::fixed::{self, Change, Session, FILL};
 use crate::items::{self, Item, ITEMS};
 use crate::probe::SCRIPT_MAX;
 use crate::streams::{
@@ -18,8 +20,11 @@ const TABLES: usize = 1225;
 
 type Case = (&'static str, fn(&mut Rng) -> Script);
 
-const CASES: [Case; 28] = [
+const CASES: [Case; 30] = [
     ("empty", |_| Script::default()),
+    // These two stand early, so that faults planted in them are found soon.
+    ("moves", moves::done),
+    ("moves refused", moves::refused),
     ("rows at other addresses", other_addresses),
     ("fresh images", fresh_images),
     ("image lengths", image_lengths),
@@ -50,7 +55,7 @@ const CASES: [Case; 28] = [
 ];
 
 /// How many scripts `broken` has.
-const BROKEN: usize = 23;
+const BROKEN: usize = 29;
 
 /// A script under construction.
 #[derive(Default)]
@@ -78,6 +83,15 @@ impl Script {
             self.poke(offset + place, value);
         }
         self
+    }
+
+    fn fill(&mut self, value: u8) -> &mut Self {
+        self.given(b'W', &[value])
+    }
+
+    /// The image buffer and the second one change places.
+    fn exchange(&mut self) -> &mut Self {
+        self.given(b'X', &[])
     }
 
     fn output(&mut self, length: usize, fill: u8) -> &mut Self {
@@ -165,12 +179,17 @@ pub fn fixed_calls(session: &Session) -> Vec<u8> {
         script.poke(offset, value);
     }
     for step in &session.steps {
-        for (offset, bytes) in &step.changed {
-            script.poke_all(*offset, bytes);
+        for change in &step.changed {
+            match change {
+                Change::Bytes(offset, bytes) => script.poke_all(*offset, bytes),
+                Change::Fill(value) => script.fill(*value),
+                Change::Length(length) => script.image_length(*length),
+                Change::Exchange => script.exchange(),
+            };
         }
         script.output(session.output, FILL);
         match step.letter {
-            'F' | 'H' => script.given(step.letter as u8, &step.input),
+            'F' | 'H' | 'U' | 'D' => script.given(step.letter as u8, &step.input),
             letter => script.counted(letter as u8, &step.input),
         };
     }
@@ -782,12 +801,13 @@ fn records_past_end(_: &mut Rng) -> Script {
     script
 }
 
-/// Each kind of record as a letter alone, then one byte short, then letters
-/// that begin no record.
+/// Each kind of record that goes on behind its letter, as a letter alone, then
+/// one byte short, then letters that begin no record.
 fn broken(number: usize) -> Option<Script> {
-    let records: [&[u8]; 9] = [
+    let records: [&[u8]; 10] = [
         b"L\x00\x5D\x09",
         b"P\x00\x00\x06\x01",
+        b"W\x01",
         b"O\x01\x0D\x01",
         b"F\x01",
         b"S\x00\x09:0132CD\r\n",
@@ -796,15 +816,25 @@ fn broken(number: usize) -> Option<Script> {
         b"B\x00\x02\x01\x32",
         b"H\x00\x00\x00\x01",
     ];
-    let unknown: [&[u8]; 5] = [b"?", b"s\x00\x00", b"k\x00\x00", b"\x00", b"\xFF\n"];
+    let unknown: [&[u8]; 9] = [
+        b"?",
+        b"s\x00\x00",
+        b"k\x00\x00",
+        b"u",
+        b"d",
+        b"x",
+        b"w\x00",
+        b"\x00",
+        b"\xFF\n",
+    ];
     let end = match number {
-        0..=8 => &records[number][..1],
-        9..=17 => &records[number - 9][..records[number - 9].len() - 1],
-        _ => unknown.get(number - 18).copied()?,
+        0..=9 => &records[number][..1],
+        10..=19 => &records[number - 10][..records[number - 10].len() - 1],
+        _ => unknown.get(number - 20).copied()?,
     };
     let mut script = Script::default();
     script.fresh(1).serve(b":0132CD\r\n").0.extend(end);
-    if number >= 18 {
+    if number >= 20 {
         script.held(1); // must not be reached
     }
     Some(script)
@@ -824,6 +854,9 @@ fn by_chance(rng: &mut Rng) -> Script {
     for _ in 0..10 + rng.below(50) {
         if changing && rng.percent(30) {
             change_behind(&mut script, rng);
+        }
+        if rng.percent(2) {
+            moves::about(&mut script, rng, address);
         }
         match rng.below(10) {
             0 => script.output(rng.pick(&[0, 131, 132, 268, 269, 270, 400]), rng.byte()),

@@ -1,5 +1,6 @@
 //! The rows and rules the block is held to, one by one.
 
+mod moves;
 mod signatures;
 
 use crate::block::{build, fresh, held_parts, serve, take_apart, Refusal, Switch, IMAGE_BYTES};
@@ -641,6 +642,21 @@ fn probe_spells_its_answers() {
     assert_eq!(lines, ["F 1 263", "H 1 0 0", "T 2 0 1", "?"]);
 }
 
+/// As the probe's paper has it, byte by byte.
+#[test]
+fn digest_is_a_remainder_at_each_byte() {
+    let mut rng = Rng::new(1, 38);
+    for length in (0..20).chain([23_753, 23_817, 24_000]) {
+        for bytes in [rng.bytes(length), vec![255; length]] {
+            let mut slow = 1;
+            for &byte in &bytes {
+                slow = (257 * slow + u64::from(byte) + 1) % 4_294_967_291;
+            }
+            assert_eq!(probe::digest(&bytes), slow);
+        }
+    }
+}
+
 #[test]
 fn probe_serves_sealed_by_a_letter_of_its_own() {
     let nothing = b"L\x00\x00\x00O\x00\x00\x00K\x00\x00S\x00\x00k\x00\x00K\x00\x00";
@@ -660,6 +676,7 @@ fn probe_stops_at_a_record_cut_short() {
     assert_eq!(probe::lines(b"H\x00\x00\x00"), ["?"]);
     assert_eq!(probe::lines(b"S\x00\x02a"), ["?"]);
     assert_eq!(probe::lines(b"K\x00\x02a"), ["?"]);
+    assert_eq!(probe::lines(b"W"), ["?"]);
     let mut long = b"B\xFF\xFD".to_vec();
     long.resize(65_536, 0);
     assert_eq!(probe::lines(&long).len(), 1);

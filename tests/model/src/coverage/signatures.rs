@@ -57,16 +57,16 @@ const NONE: &[u8] = &[NO_COMMAND];
 const SIGN: &[u8] = &[55, 61, 64];
 const AMEND: &[u8] = &[53, 59, 62];
 const OTHER_WRITES: &[u8] = &[51, 76, 77];
-const EITHER: Calls = &[('D', AMEND), ('S', AMEND)];
-const EITHER_62: Calls = &[('D', &[62]), ('S', &[62])];
+const EITHER: Calls = &[('d', AMEND), ('S', AMEND)];
+const EITHER_62: Calls = &[('d', &[62]), ('S', &[62])];
 /// On a fresh image only a table can go past the ends.
-const PAST_ENDS: Calls = &[('D', &[59]), ('S', AMEND)];
+const PAST_ENDS: Calls = &[('d', &[59]), ('S', AMEND)];
 
 const ROWS: [Row; 19] = [
     (
         Kind::True,
         "answered true, not 0",
-        &[('D', SIGN), ('S', SIGN), ('K', SIGN)],
+        &[('d', SIGN), ('S', SIGN), ('K', SIGN)],
     ),
     (Kind::False, "answered false", &[('S', SIGN), ('K', SIGN)]),
     (Kind::First, "written first", EITHER),
@@ -82,14 +82,14 @@ const ROWS: [Row; 19] = [
     (
         Kind::Left(0),
         "words left",
-        &[('D', OTHER_WRITES), ('S', OTHER_WRITES)],
+        &[('d', OTHER_WRITES), ('S', OTHER_WRITES)],
     ),
     (Kind::Left(9), "words left, number 9", EITHER),
     (Kind::Left(10), "words left, number 10", EITHER),
     (
         Kind::Left(11),
         "words left, number 11",
-        &[('D', &[53, 62]), ('S', &[53, 62]), ('F', NONE)],
+        &[('d', &[53, 62]), ('S', &[53, 62]), ('F', NONE)],
     ),
     (Kind::Left(16), "words left, number 16", &[('K', &WRITING)]),
     (Kind::LaidOver, "over words not 0", &[('F', NONE)]),
@@ -118,7 +118,7 @@ impl<'a> Call<'a> {
     fn new(came: &Came<'a>) -> Option<Self> {
         let (command, data) = match (came.call, came.number) {
             ('F', 0 | 11) | ('H', 0) => (NO_COMMAND, Vec::new()),
-            ('D' | 'S' | 'K', 0 | 9 | 10 | 11 | 16) => {
+            ('d' | 'S' | 'K', 0 | 9 | 10 | 11 | 16) => {
                 let body = body(came.input);
                 (body[1], body[2..body.len() - 1].to_vec())
             }
@@ -311,10 +311,10 @@ const fn answered(answered: fn(&Item, &[u8], u16) -> u16) -> Block {
 type Wrong = (&'static str, Block, Calls);
 
 /// A wrong sum shows in what is left at once, and at the desk when it is asked.
-const SUMS: Calls = &[('D', SIGN), ('S', AMEND)];
+const SUMS: Calls = &[('d', SIGN), ('S', AMEND)];
 /// On a fresh image a wrong remainder shows in tables alone.
-const REMAINDERS: Calls = &[('D', &[61]), ('S', AMEND)];
-const OF_ROWS: Calls = &[('D', &[64]), ('S', &[62])];
+const REMAINDERS: Calls = &[('d', &[61]), ('S', AMEND)];
+const OF_ROWS: Calls = &[('d', &[64]), ('S', &[62])];
 
 const WRONG: [Wrong; 27] = [
     ("what left not taken off", left(|_| 0), SUMS),
@@ -425,17 +425,17 @@ const WRONG: [Wrong; 27] = [
             (59, false) => total(&write.came) + (1 << ((write.data[1] - 1) % 8)),
             _ => total(&write.came),
         }),
-        &[('D', &[61]), ('S', &[59])],
+        &[('d', &[61]), ('S', &[59])],
     ),
     (
         "51, 76 and 77 counted",
         amends(|call| call.number == 0 && WRITING.contains(&call.command)),
-        &[('D', &[61]), ('S', OTHER_WRITES)],
+        &[('d', &[61]), ('S', OTHER_WRITES)],
     ),
     (
         "refused 11 and counted",
         amends(|call| matches!(call.number, 0 | 11) && AMEND.contains(&call.command)),
-        &[('D', &[55, 64]), ('S', &[53, 62])],
+        &[('d', &[55, 64]), ('S', &[53, 62])],
     ),
     (
         "refused 16 and counted",
@@ -448,7 +448,7 @@ const WRONG: [Wrong; 27] = [
             59 => 2 * usize::from(item.number % 10 - 1),
             _ => right_place(item),
         }),
-        &[('D', &[61]), ('S', &[59, 61]), ('K', &[61])],
+        &[('d', &[61]), ('S', &[59, 61]), ('K', &[61])],
     ),
     (
         "additional tables first",
@@ -534,7 +534,7 @@ fn kinds_of(call: &Call) -> Vec<Kind> {
         kinds.push(Kind::LaidOver);
     }
     // The words of the desk are never false.
-    if call.letter != 'D' && call.number == 0 && any_false(call.before) {
+    if call.letter != 'd' && call.number == 0 && any_false(call.before) {
         kinds.push(Kind::AmongFalse);
     }
     kinds
@@ -577,7 +577,7 @@ fn rows() -> impl Iterator<Item = Row> {
 
 impl Coverage {
     pub(super) fn count_signatures(&mut self, came: &Came) {
-        if came.call == 'D' && came.before.is_none() {
+        if came.call == 'd' && came.before.is_none() {
             self.desk_words = vec![[0; 64]; WRONG.len()];
         }
         let Some(call) = Call::new(came) else {
@@ -585,7 +585,7 @@ impl Coverage {
         };
         let mut kinds = kinds_of(&call);
         kinds.extend(match call.letter {
-            'D' => answered_otherwise(&mut self.desk_words, &call),
+            'd' => answered_otherwise(&mut self.desk_words, &call),
             'S' | 'K' => done_otherwise(&call),
             _ => Vec::new(),
         });

@@ -16,7 +16,7 @@ type Row = [u8; 3];
 /// are those written by 62 and those returned by 63.
 type Kind = (u8, u8, &'static str, &'static [char], fn(&[u8]) -> bool);
 
-const EITHER: &[char] = &['D', 'S'];
+const EITHER: &[char] = &['d', 'S'];
 
 const KINDS: [Kind; 15] = [
     (62, 0, "80h alone", EITHER, |t| t == [0x80]),
@@ -109,8 +109,8 @@ const WRONG: [Wrong; 18] = [
 
 /// Whose calls are counted apart: a call's letter and whether it is drawn.
 const WHOSE: [(char, bool, &str); 4] = [
-    ('D', false, "desk, fixed"),
-    ('D', true, "desk, drawn"),
+    ('d', false, "desk, fixed"),
+    ('d', true, "desk, drawn"),
     ('S', false, "serve, fixed"),
     ('S', true, "serve, drawn"),
 ];

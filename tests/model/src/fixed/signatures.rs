@@ -8,12 +8,12 @@
 //! A cell is written with bytes that add up to a sum that is given; the word
 //! that it leaves stands beside it.
 
-use super::{fresh, serve, serve_sealed, word_of, Session, Step};
+use super::{fresh, serve, serve_sealed, word_of, Change, Session, Step};
 use crate::items::{item, ITEMS, WORDS};
 use crate::streams::ask;
 
 /// What the 32 items are written to, in the order of their words.
-const SUMS: [u16; 32] = [
+pub(super) const SUMS: [u16; 32] = [
     0x1101, 0x1202, 0x1303, 0x1404, 0x1505, 0x1606, 0x1707, 0x1808, 0x210B, 0x220C, 0x230D, 0x240E,
     0x250F, 0x2610, 0x2711, 0x2812, 0x0510, 0x0611, 0x0712, 0x0813, 0x0914, 0x0A15, 0x0B16, 0x0C17,
     0x0121, 0x0222, 0x0323, 0x0424, 0x0525, 0x0526, 0x0527, 0x0528,
@@ -51,7 +51,7 @@ pub fn sessions() -> Vec<Session> {
 }
 
 /// So many bytes that add up to this: FFh as often as it goes, then the rest.
-fn adding_up(sum: u16, count: usize) -> Vec<u8> {
+pub(super) fn adding_up(sum: u16, count: usize) -> Vec<u8> {
     let rest = |place| usize::from(sum).saturating_sub(255 * place);
     (0..count).map(|place| rest(place).min(255) as u8).collect()
 }
@@ -126,7 +126,7 @@ fn errors(rule: &'static str, (number, count): (u8, u8), sum: u16, word: u16) ->
 }
 
 /// A 55, 61 or 64 and the word that it answers.
-fn asked(rule: &'static str, command: u8, number: u8, word: u16) -> Step {
+pub(super) fn asked(rule: &'static str, command: u8, number: u8, word: u16) -> Step {
     let [high, low] = word.to_be_bytes();
     serve(rule, &ask(1, command, &[number])).writes(&ask(1, command, &[number, high, low]))
 }
@@ -137,7 +137,7 @@ fn sealed(mut step: Step) -> Step {
 }
 
 /// Asked unsealed and then sealed, which is nothing to the answer.
-fn asked_twice(rule: &'static str, command: u8, number: u8, word: u16) -> [Step; 2] {
+pub(super) fn asked_twice(rule: &'static str, command: u8, number: u8, word: u16) -> [Step; 2] {
     let again = sealed(asked(rule, command, number, word));
     [asked(rule, command, number, word), again]
 }
@@ -149,7 +149,7 @@ fn changed(offset: usize, bytes: &[u8], [once, again]: [Step; 2]) -> [Step; 2] {
 
 /// A write of the item at this place among the words, after which nothing but
 /// this is stored of it. A table has one part written, another for each table.
-fn write_of(rule: &'static str, place: usize, sum: u16, word: u16) -> Step {
+pub(super) fn write_of(rule: &'static str, place: usize, sum: u16, word: u16) -> Step {
     let item = &ITEMS[place];
     match item.commands[0] {
         53 => constants(rule, item.number, sum, word),
@@ -794,7 +794,7 @@ fn other_versions() -> Vec<Step> {
         [1, 0],
     ] {
         let mut refused = all_refused();
-        refused[0].changed.push((3, version.to_vec()));
+        refused[0].changed.push(Change::Bytes(3, version.to_vec()));
         steps.extend(refused);
         let right = || serve("version 2", b":0132CD\r\n").replies(":013200CD");
         steps.push(right().after_change(3, &[0, 2]));
@@ -805,7 +805,7 @@ fn other_versions() -> Vec<Step> {
 }
 
 /// Number 1 for what needs an image: served, sealed, and held parts.
-fn all_refused() -> Vec<Step> {
+pub(super) fn all_refused() -> Vec<Step> {
     let held = |table: u32| Step::new("no image", 'H', &table.to_be_bytes());
     let write = ask(1, 59, &[&[18, 11], &[0xFF; 128][..]].concat());
     let steps = vec![

@@ -12,7 +12,7 @@ use crate::streams::{
 use crate::{desk_streams, probe_scripts};
 
 /// A usable image with bytes by chance in all items and with any words.
-fn changed_image(rng: &mut Rng) -> Vec<u8> {
+pub fn changed_image(rng: &mut Rng) -> Vec<u8> {
     let mut image = image_at(1);
     for item in &ITEMS {
         let bytes = rng.bytes(item.bytes);
@@ -72,7 +72,7 @@ fn hold_to_full_sums(came: &Came) {
     let (mut asked, mut reply) = ([0; 132], [0; 132]);
     let text = [came.reply, b"\r\n"].concat();
     // No other reply has as many bytes.
-    if matches!(came.call, 'D' | 'S' | 'K')
+    if matches!(came.call, 'd' | 'S' | 'K')
         && came.number == 0
         && take_apart(came.input, &mut asked).is_ok()
         && take_apart(&text, &mut reply) == Ok(5)
@@ -84,7 +84,7 @@ fn hold_to_full_sums(came: &Came) {
 }
 
 /// The theorem of wish 7, for every image that these streams and scripts reach
-/// from a fresh one by calls alone.
+/// from a fresh one by calls alone, and from one that was moved up (wish 8).
 #[test]
 fn words_are_full_sums_on_every_image_reached() {
     for number in 0..desk_streams::purposeful() + 20 {
@@ -94,11 +94,14 @@ fn words_are_full_sums_on_every_image_reached() {
     let mut calls = 0;
     for number in 0..probe_scripts::purposeful() + 100 {
         let (_, script) = probe_scripts::script(7, number);
-        let mut reached = None;
+        let (mut reached, mut moved_up) = (None, None);
         probe_calls(&script, true, |came| {
             let laid_out = (came.call, came.number) == ('F', 0);
-            let by_calls = reached.as_deref() == Some(came.image_before);
+            let before = Some(came.image_before);
+            let by_calls = reached.as_deref() == before || moved_up.as_deref() == before;
             reached = (laid_out || by_calls).then(|| came.image.to_vec());
+            let up = (came.call, came.number) == ('U', 0);
+            moved_up = up.then(|| came.second.to_vec());
             if reached.is_some() {
                 hold_to_full_sums(came);
                 calls += 1;
