@@ -15,7 +15,7 @@ use Rattle.image.specs.Cell.{run, items, itemAt}
 use Rattle.image.specs.Words.{keptOffset}
 use Rattle.image.proofs.Kept.{items-32, items-at}
 use Rattle.storing.specs.Signature.{fullSum}
-use Rattle.versions.specs.Moved.{numberOffset, numbered, signatures, behind, inVersion}
+use Rattle.versions.specs.Moved.{numberOffset, numbered, signatures, inVersion}
 
 -- ---- the bytes that both versions have
 

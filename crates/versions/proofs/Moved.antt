@@ -1,29 +1,25 @@
--- A moved image, byte by byte: it has the source's bytes but for the number, its words are true, and it is usable in its version. Assumes nothing.
-use mathlib.Core.Path.{_≡_, refl, sym, ap, _∙_}
-use mathlib.Core.Logic.{_≢_}
-use mathlib.Core.List.{List, [], _++_, append-nil}
+-- A moved image, byte by byte: it has the source's bytes but for the number, its words are the sums, and it is usable in its version. Assumes nothing.
+use mathlib.Core.Path.{_≡_, refl, _∙_}
+use mathlib.Core.List.{List}
 use mathlib.Core.Bool.{true}
 use Prim.Native.Nat.{ℕ, zero, suc, _+_, _*_, _/_, _%_, _≤_, _<_}
 use native.Mathlib.Omega.{arith}
 use lib.ListN.{length, getD, take, length-append, List·getD-append}
-use lib.Seq.{getD-take, getD-append-add}
+use lib.Seq.{getD-take, getD-append-add, length-take-le}
 use borrow.Author.Tests.{eq-eqb}
 use Rattle.laws.specs.Bytes.{lay, two, wordAt}
 use Rattle.laws.proofs.Bytes.{In, lay-in, lay-out, length-two}
-use lib.Seq.{length-take-le}
 use Rattle.image.specs.declared.cell.Cell.{Cell}
-use Rattle.image.specs.declared.cell.Cell.the-variants.{Errors, Table}
-use Rattle.image.specs.declared.cell.Signed.{Signed}
+use Rattle.image.specs.declared.cell.Cell.the-variants.{Errors}
 use Rattle.image.specs.declared.version.Version.{Version}
 use Rattle.image.specs.declared.version.Version.the-variants.{V1, V2}
 use Rattle.image.specs.Version.{versionNumber, imageLength}
-use Rattle.image.specs.Cell.{offset, isItem, run, items, itemAt}
+use Rattle.image.specs.Cell.{offset, run, items, itemAt}
 use Rattle.image.specs.Words.{keptOffset, wordOffset, tableWord}
 use Rattle.image.specs.Usable.{usable, markOk}
 use Rattle.image.proofs.UsableFacts.{facts, usable-of, begins-as, address-same, least-length}
-use Rattle.image.proofs.Kept.{items-32, items-at, Counts, nowhere, in-word, counts-view}
-use Rattle.storing.specs.Signature.{fullSum, wordKept, TrueWords}
-use Rattle.storing.proofs.Signatures.{sum-word}
+use Rattle.image.proofs.Kept.{items-32, items-at}
+use Rattle.storing.specs.Signature.{fullSum}
 use Rattle.versions.specs.Moved.{numberOffset, numbered, signatures, behind, inVersion, other}
 use Rattle.versions.proofs.Making.{length-numbered, length-signatures}
 

@@ -18,7 +18,7 @@ use Rattle.kept.proofs.Truth.{stays-true}
 use Rattle.kept.proofs.Alike.{numbers-alike, stays-like, told-alike, turn-alike, stays-same, answers-alike}
 use Rattle.versions.specs.Moved.{inVersion}
 use Rattle.versions.proofs.Words.{summed, call-low}
-use Rattle.versions.proofs.RoundTrip.{up-like, up-true, up-same, up-low, down-like, down-same, down-is, up-is}
+use Rattle.versions.proofs.RoundTrip.{up-true, up-same, up-low, down-like, down-same, down-is, up-is}
 
 -- whatever hears the frames, in either position of the switch: the same for both blocks
 module _ (ear : Switch → Hearing) (ok : (s : Switch) → Lawful (ear s)) where

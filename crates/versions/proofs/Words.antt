@@ -1,13 +1,13 @@
 -- A true word, as the two bytes of its sum. The low one has to be a byte for that, which it is in every lent buffer, and which no write changes. Assumes
 -- nothing.
-use mathlib.Core.Path.{_≡_, refl, sym, ap, _∙_}
+use mathlib.Core.Path.{_≡_, sym, ap, _∙_}
 use mathlib.Core.List.{List, []}
 use Prim.Native.Nat.{ℕ, _+_, _*_, _/_, _%_, _≤_, _<_}
 use native.Mathlib.Decide.{ℕ-discrete}
 use native.Mathlib.Omega.{arith}
 use lib.ListN.{length, getD, drop}
 use Rattle.laws.specs.Bytes.{slice, lay, padded, two, wordAt}
-use Rattle.laws.proofs.Bytes.{length-lay, lay-in, lay-out, length-two, length-padded}
+use Rattle.laws.proofs.Bytes.{length-lay, lay-in, lay-out, length-padded}
 use Rattle.frame.specs.Apart.{contentsOf}
 use Rattle.image.specs.declared.cell.Cell.{Cell}
 use Rattle.image.specs.declared.cell.Signed.{Signed}

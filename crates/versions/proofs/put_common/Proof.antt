@@ -1,10 +1,8 @@
 -- The bytes are laid, and the number over theirs. Assumes nothing.
-use mathlib.Core.Path.{_≡_, sym, _∙_}
+use mathlib.Core.Path.{sym, _∙_}
 use native.Mathlib.Omega.{arith}
-use lib.ListN.{length, take}
 use lib.Seq.{length-take-le}
 use borrow.Author.Needs.{needs}
-use Rattle.laws.proofs.Bytes.{length-lay}
 use Rattle.versions.proofs.Making.{numbered-laid}
 use Rattle.versions.proofs.put_common.Statement.{statement}
 use Rattle.versions.proofs.put_common.Tie as tie

@@ -1,5 +1,4 @@
 -- The two tests of the definition. Assumes nothing.
-use native.Mathlib.Omega.{arith}
 use borrow.Author.Tests.{lt-ltb, le-ltb}
 use Rattle.image.specs.Cell.{itemAt}
 use Rattle.image.proofs.cell.Cell.item.Statement.{statement}
