@@ -65,19 +65,19 @@ items-at = refl
 pub item-is : (i : ℕ) → i < 32 → isItem (itemAt i) ≡ true
 item-is i l = items-are {e = itemAt i} (rw (← items-at) (run-mem itemAt i 0 32 (omega arith) (omega arith)))
 
-at-constants : (c : ℕ) → c < 8 → itemAt (16 + c) ≡ Constants c
+pub at-constants : (c : ℕ) → c < 8 → itemAt (16 + c) ≡ Constants c
 unfolding itemAt
 at-constants c l =
     let e : 16 + c - 16 ≡ c = omega arith in
     rw (le-ltb (16 + c) 16 (omega arith), lt-ltb (16 + c) 24 (omega arith), e)
 
-at-errors : (e : ℕ) → e < 8 → itemAt (24 + e) ≡ Errors e
+pub at-errors : (e : ℕ) → e < 8 → itemAt (24 + e) ≡ Errors e
 unfolding itemAt
 at-errors e l =
     let h : 24 + e - 24 ≡ e = omega arith in
     rw (le-ltb (24 + e) 16 (omega arith), le-ltb (24 + e) 24 (omega arith), h)
 
-at-table : (k : ℕ) → k < 16 → itemAt k ≡ Table k
+pub at-table : (k : ℕ) → k < 16 → itemAt k ≡ Table k
 unfolding itemAt
 at-table k l = rw (lt-ltb k 16 l)
 

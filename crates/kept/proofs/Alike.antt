@@ -7,29 +7,33 @@ use mathlib.Core.Bool.{Bool, true, false}
 use Prim.Native.Nat.{ℕ, zero, suc, _+_, _-_, _%_, _≤_, _<_}
 use native.Mathlib.Decide.{decLt, decLe, ℕ-discrete}
 use native.Mathlib.Omega.{arith}
-use lib.ListN.{length, getD, take, drop}
+use lib.ListN.{length, getD, take, drop, length-append}
 use Rattle.laws.specs.Bytes.{slice, lay, padded, sumOf, two, wordAt}
 use Rattle.laws.specs.Bits.{withBit}
+use Rattle.laws.specs.Checks.{judged}
 use Rattle.laws.proofs.Tests.{never}
-use Rattle.laws.proofs.Bytes.{In, length-lay, lay-in, lay-out, slice-both}
+use Rattle.laws.proofs.Bytes.{In, length-lay, lay-in, lay-out, slice-both, length-two}
 use Rattle.reorder.specs.Reorder.{outcomes}
 use Rattle.frame.specs.Apart.{contentsOf}
 use Rattle.frame.specs.Built.{frameOf}
+use Rattle.frame.proofs.FrameLaid.{length-frame}
 use Rattle.image.specs.declared.cell.Cell.{Cell}
 use Rattle.image.specs.declared.cell.Signed.{Signed}
 use Rattle.image.specs.declared.version.Version.{Version}
 use Rattle.image.specs.declared.version.Version.the-variants.{V1, V2}
 use Rattle.image.specs.Version.{imageLength}
-use Rattle.image.specs.Cell.{offset, size, extent, isCell, isItem}
-use Rattle.image.specs.Words.{wordOffset, signatureWord}
+use Rattle.image.specs.Cell.{offset, size, extent, isCell, isItem, isTable, tableIndex}
+use Rattle.image.specs.Words.{wordOffset, signatureWord, tableWord}
 use Rattle.image.specs.Usable.{usable, address, addressOk}
 use Rattle.image.specs.Fresh.{fresh}
+use Rattle.image.specs.Held.{heldOf, heldParts}
 use Rattle.image.proofs.Cells.{placed, size-some, part-numbers}
+use Rattle.image.proofs.Indices.{index-below}
 use Rattle.image.proofs.UsableFacts.{facts}
 use Rattle.image.proofs.FreshImage.{head-at, rest-at, fresh-usable}
 use Rattle.image.proofs.Stretches.{item-inside, item-low}
 use Rattle.image.proofs.Kept.{Counts, nowhere, in-word, counts-view}
-use Rattle.storing.specs.Signature.{fullSum, TrueWords}
+use Rattle.storing.specs.Signature.{fullSum, signature, TrueWords}
 use Rattle.storing.specs.Stored.{Touch, touchedAll, bits, amending, stored, FitStore}
 use Rattle.storing.proofs.Touches.{Own, touched-byte, touched-length, Bit, no-bit, part-bit, bit-view, amend-first}
 use Rattle.storing.proofs.Elsewhere.{extent-fits}
@@ -134,6 +138,12 @@ module _ (m n : List ℕ) (s : Like m n) where
   says-alike e Sign d c f t = ap two (sums-alike d f ∙ sym t)
   says-alike e (Store k) d c f t = refl
 
+  -- whatever the words say, a signature has two bytes
+  says-long : (a : Act) (d : Cell) (c : List ℕ) → Fit a d c → length (says V1 a d m) ≡ length (says V2 a d n)
+  says-long Show d c f = ap length (says-alike 0 Show d c f tt)
+  says-long Sign d c f = length-two (fullSum d m) ∙ sym (length-two (signature V2 d n))
+  says-long (Store k) d c f = refl
+
   -- ---- a turn
 
   one-address : address m ≡ address n
@@ -147,19 +157,24 @@ module _ (m n : List ℕ) (s : Like m n) where
   reply-alike (Refused k) c f t = refl
   reply-alike (Accepted e a d) c f t = ap (λ (l : List ℕ). frameOf (take (2 + e) c ++ l)) (says-alike e a d c (f .act) t)
 
+  reply-long : (r : Verdict) (c : List ℕ) → FitVerdict r c → length (done V1 r c m .reply) ≡ length (done V2 r c n .reply)
+  reply-long (Refused k) c f = refl
+  reply-long (Accepted e a d) c f =
+      let h = take (2 + e) c in
+      let x = length-frame (h ++ says V1 a d m) in
+      let y = length-frame (h ++ says V2 a d n) in
+      omega (arith, x, y, length-append h (says V1 a d m), length-append h (says V2 a d n), says-long a d c (f .act))
+
   image-alike : (r : Verdict) (c : List ℕ) → FitVerdict r c → Common (done V1 r c m .image) (done V2 r c n .image)
   image-alike (Refused k) c f = s .bytes
   image-alike (Accepted e a d) c f = leaves-alike a d c (f .act)
 
-  module _ (ear : Switch → Hearing) (ok : (k : Switch) → Lawful (ear k)) (x : Turn) where
+  module _ (ear : Switch → Hearing) (x : Turn) where
     abbrev verdict : Verdict
     verdict = ear (x .switch) (address n) (x .frame)
 
     abbrev contents : List ℕ
     contents = contentsOf (x .frame)
-
-    fits : FitVerdict verdict contents
-    fits = ok (x .switch) .fits (address n) (x .frame)
 
     -- both refuse it 2, or both do what one verdict says
     turn-both : (R : BuffersAfter → BuffersAfter → Type 0) → R (sent (refusal 2 m) (x .out)) (sent (refusal 2 n) (x .out))
@@ -180,21 +195,48 @@ module _ (m n : List ℕ) (s : Like m n) where
               one-address,
             ) through
 
-    -- whatever the words say
+    -- whatever the words say, and whatever hears the frame
     pub numbers-alike : inTurn ear V1 m x .number ≡ inTurn ear V2 n x .number
     numbers-alike = turn-both (λ a b. a .number ≡ b .number) refl (number-alike verdict contents)
+
+  module _ (ear : Switch → Hearing) (ok : (k : Switch) → Lawful (ear k)) (x : Turn) where
+    fits : FitVerdict (verdict ear x) (contents ear x)
+    fits = ok (x .switch) .fits (address n) (x .frame)
+
+    -- whatever the words say
+    pub lengths-alike : inTurn ear V1 m x .len ≡ inTurn ear V2 n x .len
+    lengths-alike = turn-both ear x (λ a b. a .len ≡ b .len) refl (reply-long (verdict ear x) (contents ear x) fits)
 
     pub stays-like : Like (inTurn ear V1 m x .image) (inTurn ear V2 n x .image)
     stays-like =
         record {
           first = usable-stays (ear (x .switch)) (ok (x .switch)) V1 (x .frame) m (x .out) (s .first);
           second = usable-stays (ear (x .switch)) (ok (x .switch)) V2 (x .frame) n (x .out) (s .second);
-          bytes = turn-both (λ a b. Common (a .image) (b .image)) (s .bytes) (image-alike verdict contents fits);
+          bytes = turn-both ear x (λ a b. Common (a .image) (b .image)) (s .bytes) (image-alike (verdict ear x) (contents ear x) fits);
         }
 
     -- number, length and whole output, where no false word is asked for
-    pub told-alike : AsksTrue verdict n → asked ear V1 m x .0 ≡ asked ear V2 n x .0
-    told-alike t = turn-both (λ a b. told a ≡ told b) refl (rw (number-alike verdict contents, reply-alike verdict contents fits t))
+    pub told-alike : AsksTrue (verdict ear x) n → asked ear V1 m x .0 ≡ asked ear V2 n x .0
+    told-alike t =
+        turn-both ear x (λ a b. told a ≡ told b) refl
+        (rw (number-alike (verdict ear x) (contents ear x), reply-alike (verdict ear x) (contents ear x) fits t))
+
+  -- held parts, of any table
+  pub held-alike : (t : ℕ) → heldParts V1 m t ≡ heldParts V2 n t
+  unfolding heldParts judged tableWord wordAt
+  held-alike t = go (isTable t) refl
+    where
+      word : (k : ℕ) → k < 16 → tableWord m k ≡ tableWord n k
+      word k l = rw (s .bytes (wordOffset k) (omega arith) (omega arith), s .bytes (wordOffset k + 1) (omega arith) (omega arith))
+
+      go : (b : Bool) → isTable t ≡ b → heldParts V1 m t ≡ heldParts V2 n t
+      go false e = rw (s .first, s .second, e)
+      go true e = rw (s .first, s .second, e) (ap heldOf (word (tableIndex t) (index-below t e)))
+
+-- what is told is each of the three
+pub told-each : (a b : BuffersAfter) → told a ≡ told b → (a .number ≡ b .number) × (a .len ≡ b .len) × (a .out ≡ b .out)
+told-each a b e =
+    (ap (λ (k : ℕ × ℕ × List ℕ). k .0) e, ap (λ (k : ℕ × ℕ × List ℕ). k .1) e, ap (λ (k : ℕ × ℕ × List ℕ). k .2) e)
 
 -- ---- with true words
 

@@ -41,14 +41,16 @@ module _ (v : Version) (m : List ℕ) (long : imageLength V1 ≤ length m) where
   -- every byte is kept but the two of the number
   pub byte-kept : (i : ℕ) → i < imageLength V1 → ¬ In numberOffset 2 i → getD (inVersion v m) i 0 ≡ getD m i 0
   byte-kept i l n =
-      front i l ∙ lay-out (take (imageLength V1) m) numberOffset (two (versionNumber v)) i (rw (length-two (versionNumber v)) n) ∙ getD-take (imageLength V1) m i 0 l
+      front i l ∙ lay-out (take (imageLength V1) m) numberOffset (two (versionNumber v)) i (rw (length-two (versionNumber v)) n)
+      ∙ getD-take (imageLength V1) m i 0 l
 
   pub number-laid : (getD (inVersion v m) numberOffset 0 ≡ 0) × (getD (inVersion v m) (numberOffset + 1) 0 ≡ versionNumber v)
   unfolding two
   number-laid =
-      let e = length-take-le (imageLength V1) m long in (
-        front numberOffset (omega arith) ∙ lay-in (take (imageLength V1) m) numberOffset (two (versionNumber v)) 0 (omega arith) (omega arith) ∙ small v .0,
-        front (numberOffset + 1) (omega arith) ∙ lay-in (take (imageLength V1) m) numberOffset (two (versionNumber v)) 1 (omega arith) (omega arith) ∙ small v .1,
+      let e = length-take-le (imageLength V1) m long in
+      let laid = lay-in (take (imageLength V1) m) numberOffset (two (versionNumber v)) in (
+        front numberOffset (omega arith) ∙ laid 0 (omega arith) (omega arith) ∙ small v .0,
+        front (numberOffset + 1) (omega arith) ∙ laid 1 (omega arith) (omega arith) ∙ small v .1,
       )
     where
       small : (v : Version) → (versionNumber v / 256 ≡ 0) × (versionNumber v % 256 ≡ versionNumber v)
@@ -126,5 +128,7 @@ module _ (v : Version) (m : List ℕ) (u : usable (other v) m ≡ true) where
         address-is = address-same m (inVersion v m) (kept 5 (omega arith) (λ p. absurd (omega arith))) ∙ f .address-is;
         counts = λ e l. rw (kept (offset (Errors e)) (omega arith) (λ p. absurd (omega arith))) (f .counts e l);
         words = λ k l.
-            rw (kept (wordOffset k) (omega arith) (λ p. absurd (omega arith)), kept (wordOffset k + 1) (omega arith) (λ p. absurd (omega arith))) (f .words k l);
+            let high = kept (wordOffset k) (omega arith) (λ p. absurd (omega arith)) in
+            let low = kept (wordOffset k + 1) (omega arith) (λ p. absurd (omega arith)) in
+            rw (high, low) (f .words k l);
       })

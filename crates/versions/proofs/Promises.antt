@@ -6,26 +6,31 @@ use mathlib.Core.Bool.{true}
 use Prim.Native.Nat.{ℕ, _+_, _*_, _%_, _<_}
 use native.Mathlib.Omega.{arith}
 use lib.ListN.{length, getD}
-use borrow.Author.Tests.{lt-ltb}
-use Rattle.laws.specs.Bytes.{slice, sumOf, wordAt}
+use Rattle.laws.specs.Bytes.{slice, sumOf}
 use Rattle.laws.proofs.Bytes.{Bytes}
-use Rattle.image.specs.declared.cell.Cell.{Cell}
-use Rattle.image.specs.declared.cell.Cell.the-variants.{Constants, Errors, Table}
+use Rattle.output.specs.declared.answer.Answer.{Answer}
 use Rattle.image.specs.declared.version.Version.{Version}
 use Rattle.image.specs.declared.version.Version.the-variants.{V1, V2}
-use Rattle.image.specs.Version.{versionNumber, imageLength}
-use Rattle.image.specs.Cell.{isItem}
+use Rattle.image.specs.Version.{current, versionNumber, imageLength}
 use Rattle.image.specs.Words.{keptOffset}
 use Rattle.image.specs.Usable.{usable}
 use Rattle.image.specs.Made.{ImageAfter, Makes}
+use Rattle.image.proofs.Kept.{at-table, at-constants, at-errors}
 use Rattle.image.proofs.OneOutcome.{makes-one-outcome}
-use Rattle.storing.specs.Signature.{fullSum, signature, TrueWords}
+use Rattle.storing.specs.Signature.{fullSum, TrueWords}
+use Rattle.rules.specs.declared.switch.Switch.{Switch}
+use Rattle.command.specs.Reply.{BuffersAfter, Serves}
+use Rattle.izk.specs.Heard.{heard}
+use Rattle.izk.specs.Block.{served}
+use Rattle.izk.specs.Since.{Turn, inTurn}
+use Rattle.izk.proofs.Hearing.{heard-lawful}
 use Rattle.kept.specs.Reached.{Reached}
-use Rattle.kept.proofs.Alike.{sums-alike}
+use Rattle.kept.proofs.Alike.{told-each}
 use Rattle.versions.specs.Moved.{inVersion, other, moved}
 use Rattle.versions.proofs.Refusals.{both-fit, Ended, made, kept, ended}
-use Rattle.versions.proofs.Moved.{length-moved, byte-kept, number-laid, long-source, moved-usable}
-use Rattle.versions.proofs.RoundTrip.{up-like, up-true, up-then-down, down-then-up}
+use Rattle.versions.proofs.Moved.{length-moved, byte-kept, number-laid, TwoAt, words-laid, long-source, moved-usable}
+use Rattle.versions.proofs.RoundTrip.{up-then-down, down-then-up}
+use Rattle.versions.proofs.Serving.{up-answers, up-commutes, down-answers, down-commutes}
 use Rattle.versions.proofs.Reaching.{moved-reached}
 
 module _ (v : Version) (m t : List ℕ) where
@@ -64,7 +69,7 @@ module _ (v : Version) (m t : List ℕ) where
     pub move-reaches : r ≡ 0 → Reached (other v) m → Reached v n
     move-reaches z h = let (u, l, e) = move-done z in rw e (moved-reached v h u)
 
--- ---- there and back, whatever stood in the targets
+-- ---- there and back, and back and there if the words were true: whatever stood in the targets
 
 module _ (m t : List ℕ) (r : ℕ) (n t′ : List ℕ) (s : ℕ) (o : List ℕ) where
   pub there-and-back : Makes (moved V2 m t) r n → r ≡ 0 → Makes (moved V1 n t′) s o → length t′ ≡ imageLength V1 → (s ≡ 0) × (o ≡ m)
@@ -79,6 +84,34 @@ module _ (m t : List ℕ) (r : ℕ) (n t′ : List ℕ) (s : ℕ) (o : List ℕ)
       let (u, k, e) = move-done V1 m t r n p z in
       let (y, x) = move-does V2 n t′ s o q (move-usable V1 m t r n p z) l in
       (y, x ∙ ap (λ (a : List ℕ). inVersion V2 a) e ∙ down-then-up m u true-words b)
+
+-- ---- a frame, served before a move or after it, by the promise of serving: the same number, length and every byte of the output, and what it leaves is the
+-- same image, moved
+
+abbrev pub Alike : Answer → List ℕ → BuffersAfter → Type 0
+Alike a out b = (a .number ≡ b .number) × (a .len ≡ b .len) × (out ≡ b .out)
+
+module _ (s : Switch) (f m t out : List ℕ) (r : ℕ) (n : List ℕ) where
+  abbrev turn : Turn
+  turn = record { switch = s; frame = f; out = out }
+
+  -- the block on what a move up left, and a block of version 1 on what it came from
+  pub up-serves : Makes (moved V2 m t) r n → r ≡ 0 → (a : Answer) (n′ o : List ℕ) → Serves (served (heard s) current f n out) a n′ o
+      → let b = served (heard s) V1 f m out in Alike a o b × (n′ ≡ inVersion V2 (b .image))
+  up-serves p z a n′ o q =
+      let (u, l, e) = move-done V2 m t r n p z in
+      let y = told-each (inTurn heard V2 (inVersion V2 m) turn) (inTurn heard V1 m turn) (sym (up-answers heard heard-lawful m u turn)) in
+      let w = rw e at q in
+      ((w .number-is ∙ y .0, w .len-is ∙ y .1, w .out-is ∙ y .2), w .image-is ∙ up-commutes heard heard-lawful m u turn)
+
+  -- the block on what is moved down, and a block of version 1 on what that leaves: where the words were true
+  pub down-serves : Makes (moved V1 m t) r n → r ≡ 0 → TrueWords m → (a : Answer) (m′ o : List ℕ) → Serves (served (heard s) current f m out) a m′ o
+      → let b = served (heard s) V1 f n out in Alike a o b × (b .image ≡ inVersion V1 m′)
+  down-serves p z true-words a m′ o q =
+      let (u, l, e) = move-done V1 m t r n p z in
+      let y = told-each (inTurn heard V2 m turn) (inTurn heard V1 (inVersion V1 m) turn) (down-answers heard heard-lawful m u turn true-words) in
+      let i = q .image-is in
+      rw (e, i) ((q .number-is ∙ y .0, q .len-is ∙ y .1, q .out-is ∙ y .2), down-commutes heard heard-lawful m u turn)
 
 -- ---- in the documents' numbers
 
@@ -99,22 +132,23 @@ up-leaves m u = leaves V2 m u
 pub down-leaves : (m : List ℕ) → usable V2 m ≡ true → Leaves 23753 1 m (inVersion V1 m)
 down-leaves m u = leaves V1 m u
 
--- behind these, a move up leaves the sums of the sixteen tables, the eight channels of constants and the eight error tables
+-- behind these, a move up leaves the sums of the sixteen tables, the eight channels of constants and the eight error tables, two bytes each
 module _ (m : List ℕ) (u : usable V1 m ≡ true) where
-  word-is : (e : Cell) → isItem e ≡ true → signature V2 e (inVersion V2 m) ≡ fullSum e m
-  word-is e h = up-true m u e h ∙ sym (sums-alike m (inVersion V2 m) (up-like m u) e h)
-
-  pub up-words : ((k : ℕ) → k < 16 → wordAt (inVersion V2 m) (23753 + 2 * k) ≡ sumOf (slice (1225 + 1408 * k) 1408 m) % 65536)
-      × ((c : ℕ) → c < 8 → wordAt (inVersion V2 m) (23785 + 2 * c) ≡ sumOf (slice (49 + 83 * c) 83 m) % 65536)
-      × ((e : ℕ) → e < 8 → wordAt (inVersion V2 m) (23801 + 2 * e) ≡ sumOf (slice (713 + 64 * e) 64 m) % 65536)
+  pub up-words : ((k : ℕ) → k < 16 → TwoAt (inVersion V2 m) (23753 + 2 * k) (sumOf (slice (1225 + 1408 * k) 1408 m) % 65536))
+      × ((c : ℕ) → c < 8 → TwoAt (inVersion V2 m) (23785 + 2 * c) (sumOf (slice (49 + 83 * c) 83 m) % 65536))
+      × ((e : ℕ) → e < 8 → TwoAt (inVersion V2 m) (23801 + 2 * e) (sumOf (slice (713 + 64 * e) 64 m) % 65536))
   unfolding fullSum
   up-words = (table, constants, errors)
     where
-      table : (k : ℕ) → k < 16 → wordAt (inVersion V2 m) (23753 + 2 * k) ≡ sumOf (slice (1225 + 1408 * k) 1408 m) % 65536
-      table k l = word-is (Table k) (lt-ltb k 16 l)
+      table : (k : ℕ) → k < 16 → TwoAt (inVersion V2 m) (23753 + 2 * k) (sumOf (slice (1225 + 1408 * k) 1408 m) % 65536)
+      table k l = rw (at-table k l) at (words-laid m (long-source V2 m u) k (omega arith))
 
-      constants : (c : ℕ) → c < 8 → wordAt (inVersion V2 m) (23785 + 2 * c) ≡ sumOf (slice (49 + 83 * c) 83 m) % 65536
-      constants c l = let e : 23785 + 2 * c ≡ keptOffset (16 + c) = omega arith in rw e (word-is (Constants c) (lt-ltb c 8 l))
+      constants : (c : ℕ) → c < 8 → TwoAt (inVersion V2 m) (23785 + 2 * c) (sumOf (slice (49 + 83 * c) 83 m) % 65536)
+      constants c l =
+          let e : keptOffset (16 + c) ≡ 23785 + 2 * c = omega arith in
+          rw (at-constants c l, e) at (words-laid m (long-source V2 m u) (16 + c) (omega arith))
 
-      errors : (t : ℕ) → t < 8 → wordAt (inVersion V2 m) (23801 + 2 * t) ≡ sumOf (slice (713 + 64 * t) 64 m) % 65536
-      errors t l = let e : 23801 + 2 * t ≡ keptOffset (24 + t) = omega arith in rw e (word-is (Errors t) (lt-ltb t 8 l))
+      errors : (t : ℕ) → t < 8 → TwoAt (inVersion V2 m) (23801 + 2 * t) (sumOf (slice (713 + 64 * t) 64 m) % 65536)
+      errors t l =
+          let e : keptOffset (24 + t) ≡ 23801 + 2 * t = omega arith in
+          rw (at-errors t l, e) at (words-laid m (long-source V2 m u) (24 + t) (omega arith))

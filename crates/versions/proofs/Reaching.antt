@@ -1,5 +1,5 @@
--- A moved image is one that its own version reaches by calls from a fresh one, if the source was: nothing that holds of what is reached is lost by a
--- move. Assumes nothing.
+-- A usable image that calls lead to from a fresh one, moved, is one that calls lead to in the other version: nothing that holds of what is reached is lost
+-- by a move. Assumes nothing.
 use mathlib.Core.Path.{_≡_, sym, _∙_}
 use mathlib.Core.Logic.{_≢_}
 use mathlib.Core.List.{List}

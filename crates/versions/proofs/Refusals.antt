@@ -20,10 +20,14 @@ module _ (v : Version) (m t : List ℕ) where
   unfolding moved judged
   no-source u = rw u
 
-  -- a target of another length
-  pub no-target : usable (other v) m ≡ true → length t ≢ imageLength v → moved v m t ≡ unmade t 1
+  -- a target of another length, whatever the source is
+  pub no-target : length t ≢ imageLength v → moved v m t ≡ unmade t 1
   unfolding moved judged
-  no-target u l = rw (u, ne-eqb (length t) (imageLength v) l)
+  no-target l = go (usable (other v) m) refl
+    where
+      go : (b : Bool) → usable (other v) m ≡ b → moved v m t ≡ unmade t 1
+      go false u = no-source u
+      go true u = rw (u, ne-eqb (length t) (imageLength v) l)
 
   -- and nothing else is refused
   pub both-fit : usable (other v) m ≡ true → length t ≡ imageLength v → moved v m t ≡ record { number = 0; image = inVersion v m }
@@ -40,5 +44,5 @@ module _ (v : Version) (m t : List ℕ) where
     where
       go : (b : Bool) → usable (other v) m ≡ b → Dec (length t ≡ imageLength v) → Ended
       go false u l = kept (no-source u)
-      go true u (no l) = kept (no-target u l)
+      go true u (no l) = kept (no-target l)
       go true u (yes l) = made u l (both-fit u l)

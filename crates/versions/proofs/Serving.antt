@@ -1,5 +1,5 @@
--- A block of version 1 before a move and one of version 2 after it answer every frame alike, under one set of frame rules, and moving commutes with
--- serving. Assumes nothing.
+-- Under one set of frame rules the blocks of the two versions answer every frame alike before and after a move, after one down where the words were true;
+-- and moving commutes with serving. Assumes nothing.
 use mathlib.Core.Path.{_≡_, refl, sym}
 use mathlib.Core.List.{List}
 use mathlib.Core.Bool.{true}
@@ -7,6 +7,7 @@ use Prim.Native.Nat.{ℕ}
 use Rattle.reorder.specs.Reorder.{outcomes}
 use Rattle.image.specs.declared.version.Version.the-variants.{V1, V2}
 use Rattle.image.specs.Usable.{usable, address}
+use Rattle.image.specs.Held.{heldParts}
 use Rattle.storing.specs.Signature.{TrueWords}
 use Rattle.rules.specs.declared.switch.Switch.{Switch}
 use Rattle.izk.specs.Heard.{Hearing, Lawful}
@@ -15,10 +16,10 @@ use Rattle.izk.proofs.Serving.{usable-stays}
 use Rattle.izk.proofs.Turns.{by-turns}
 use Rattle.kept.specs.Same.{AsksTrue, asked}
 use Rattle.kept.proofs.Truth.{stays-true}
-use Rattle.kept.proofs.Alike.{numbers-alike, stays-like, told-alike, turn-alike, stays-same, answers-alike}
+use Rattle.kept.proofs.Alike.{numbers-alike, lengths-alike, stays-like, told-alike, turn-alike, stays-same, answers-alike, held-alike}
 use Rattle.versions.specs.Moved.{inVersion}
 use Rattle.versions.proofs.Words.{summed, call-low}
-use Rattle.versions.proofs.RoundTrip.{up-true, up-same, up-low, down-like, down-same, down-is, up-is}
+use Rattle.versions.proofs.RoundTrip.{up-like, up-true, up-same, up-low, down-like, down-same, down-is, up-is}
 
 -- whatever hears the frames, in either position of the switch: the same for both blocks
 module _ (ear : Switch → Hearing) (ok : (s : Switch) → Lawful (ear s)) where
@@ -64,9 +65,11 @@ module _ (ear : Switch → Hearing) (ok : (s : Switch) → Lawful (ear s)) where
     pub down-answers-all : (xs : List Turn) → TrueWords n → outcomes (asked ear V2) n xs ≡ outcomes (asked ear V1) (inVersion V1 n) xs
     down-answers-all xs t = sym (answers-alike ear ok (inVersion V1 n) n (down-same n u t) xs)
 
-    -- whatever the words say: the number, and what is left
-    pub down-numbers : (x : Turn) → inTurn ear V2 n x .number ≡ inTurn ear V1 (inVersion V1 n) x .number
-    down-numbers x = sym (numbers-alike (inVersion V1 n) n (down-like n u) ear ok x)
+    -- whatever the words say: number, length, and what is left
+    pub down-numbers : (x : Turn) → (inTurn ear V2 n x .number ≡ inTurn ear V1 (inVersion V1 n) x .number)
+        × (inTurn ear V2 n x .len ≡ inTurn ear V1 (inVersion V1 n) x .len)
+    down-numbers x =
+        (sym (numbers-alike (inVersion V1 n) n (down-like n u) ear x), sym (lengths-alike (inVersion V1 n) n (down-like n u) ear ok x))
 
     pub down-commutes : (x : Turn) → inTurn ear V1 (inVersion V1 n) x .image ≡ inVersion V1 (inTurn ear V2 n x .image)
     down-commutes x = sym (down-is _ _ (stays-like (inVersion V1 n) n (down-like n u) ear ok x))
@@ -76,3 +79,11 @@ module _ (ear : Switch → Hearing) (ok : (s : Switch) → Lawful (ear s)) where
   down-commutes-all =
       by-turns ear ok V2 (λ n xs n′. usable V2 n ≡ true → left ear V1 (inVersion V1 n) xs ≡ inVersion V1 n′) (λ n u. refl)
       (λ n x xs n′ h u. rw (down-commutes n u x) (h (usable-stays (ear (x .switch)) (ok (x .switch)) V2 (x .frame) n (x .out) u)))
+
+-- ---- held parts, on either side of a move
+
+pub up-held : (m : List ℕ) → usable V1 m ≡ true → (t : ℕ) → heldParts V1 m t ≡ heldParts V2 (inVersion V2 m) t
+up-held m u = held-alike m (inVersion V2 m) (up-like m u)
+
+pub down-held : (n : List ℕ) → usable V2 n ≡ true → (t : ℕ) → heldParts V2 n t ≡ heldParts V1 (inVersion V1 n) t
+down-held n u t = sym (held-alike (inVersion V1 n) n (down-like n u) t)

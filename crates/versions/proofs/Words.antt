@@ -79,7 +79,8 @@ module _ (m : List ℕ) (long : length m ≡ imageLength V2) (d : Cell) (bs : Li
 
       go : Dec (k ≡ i) → getD (lay under (keptOffset k) (two w)) (keptOffset i + 1) 0 < 256
       go (yes e) =
-          let z : getD (lay under (keptOffset k) (two w)) (keptOffset k + 1) 0 ≡ w % 256 = lay-in under (keptOffset k) (two w) 1 (omega arith) (omega (arith, room)) in
+          let over = lay under (keptOffset k) (two w) in
+          let z : getD over (keptOffset k + 1) 0 ≡ w % 256 = lay-in under (keptOffset k) (two w) 1 (omega arith) (omega (arith, room)) in
           rw (← e, z) (omega arith)
       go (no n) = rw (lay-out under (keptOffset k) (two w) (keptOffset i + 1) (λ p. n (omega arith))) (under-low b i l)
 

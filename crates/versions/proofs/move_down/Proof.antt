@@ -28,7 +28,7 @@ returns : tie.Need-returns
 returns c = rw (no-source V1 _ _ (sym (c .before .is-usable .ensures) ∙ not-true _ (c .if1 .taken))) (record { number-is = refl; image-is = refl })
 
 returns-2 : tie.Need-returns-2
-returns-2 c = rw (no-target V1 _ _ (good (c .before)) (c .if2 .taken)) (record { number-is = refl; image-is = refl })
+returns-2 c = rw (no-target V1 _ _ (c .if2 .taken)) (record { number-is = refl; image-is = refl })
 
 put-common-requires : tie.Need-put-common-requires
 put-common-requires c κs = (long (c .before .before), omega arith)

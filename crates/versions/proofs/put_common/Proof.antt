@@ -34,8 +34,8 @@ returns c =
     let p = c .before .before in
     let a = p .before .before .before .before .before in
     let s = a .before .before .before .before .before in
-    p .put-word .ensures
-    ∙ rw (p .before .number .ensures, a .put-all .ensures .laid) (numbered-laid (s .args .version) (s .args .source .now) (s .args .target .now) (s .pre .0) (s .pre .1))
+    let laid = numbered-laid (s .args .version) (s .args .source .now) (s .args .target .now) (s .pre .0) (s .pre .1) in
+    p .put-word .ensures ∙ rw (p .before .number .ensures, a .put-all .ensures .laid) laid
 
 pub put-common-spec : {M : Type 1} → statement M
 put-common-spec =

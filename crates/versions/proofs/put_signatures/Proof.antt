@@ -54,7 +54,8 @@ loop-again c =
     let l = t .before in
     let m = l .before .before .before .args .source .now in
     let sum = p .before .full-sum .ensures ∙ ap (λ (e : Cell). fullSum e m) (p .before .before .item .ensures) in
-    (omega arith, omega arith, rw (p .put-word .ensures, length-lay) (l .loop .inv .2), sign-next m _ _ _ _ _ _ (t .loop-test .taken) (p .put-word .ensures) sum (l .loop .inv .3))
+    let rest = sign-next m _ _ _ _ _ _ (t .loop-test .taken) (p .put-word .ensures) sum (l .loop .inv .3) in
+    (omega arith, omega arith, rw (p .put-word .ensures, length-lay) (l .loop .inv .2), rest)
 
 same-length : tie.Need-same-length Inv-loop μ-loop
 same-length c = omega arith

@@ -48,10 +48,11 @@ returns : tie.Need-returns
 unfolding fullSum
 returns c =
     let z = c .before .before in
-    let a = z .before .offset .ensures in
+    let o = z .before .offset in
+    let a = o .ensures in
     let n = z .size .ensures in
     c .sum .ensures
-    ∙ rw (← a, ← n) (ap (λ (l : List ℕ). sumOf l % 65536) (slice-is (z .before .offset .result) (z .before .offset .result + z .size .result) _ _ (omega arith)))
+    ∙ rw (← a, ← n) (ap (λ (l : List ℕ). sumOf l % 65536) (slice-is (o .result) (o .result + z .size .result) _ _ (omega arith)))
 
 pub full-sum-spec : {M : Type 1} → statement M
 full-sum-spec =
