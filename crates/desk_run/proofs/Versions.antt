@@ -15,7 +15,7 @@ use Rattle.izk.specs.Heard.{heard}
 use Rattle.izk.specs.Since.{Turn}
 use Rattle.izk.proofs.Hearing.{heard-lawful}
 use Rattle.kept.specs.Same.{Same}
-use Rattle.kept.proofs.Alike.{turn-alike, stays-same, fresh-same}
+use Rattle.kept.proofs.Alike.{answer-alike, stays-same, fresh-same}
 use Rattle.desk_run.specs.Line.{lineOf}
 use Rattle.desk_run.specs.Desk.{printed, left, transcript, tooLong, tooLongLine, deskText}
 
@@ -26,7 +26,7 @@ turn p = record { switch = Unsealed; frame = p; out = zeros 269 }
 printed-alike : (m n : List ℕ) → Same m n → (p : List ℕ) → printed V1 m p ≡ printed V2 n p
 unfolding printed
 printed-alike m n s p =
-    ap (λ (a : ℕ × ℕ × List ℕ). lineOf (a .0) (take (a .1) (a .2))) (turn-alike m n s heard heard-lawful (turn p))
+    ap (λ (a : ℕ × ℕ × List ℕ). lineOf (a .0) (take (a .1) (a .2))) (answer-alike m n s heard heard-lawful (turn p))
 
 left-same : (m n : List ℕ) → Same m n → (p : List ℕ) → Same (left V1 m p) (left V2 n p)
 unfolding left

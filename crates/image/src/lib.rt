@@ -1,4 +1,4 @@
-// The image: its cells, when it is usable, a fresh one, the words and their bits, held parts.
+// The image: its versions and cells, when it is usable, a fresh one, the words and their bits, held parts.
 mod cell;
 mod fresh;
 mod held;

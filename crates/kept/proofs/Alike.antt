@@ -247,8 +247,8 @@ asks-true (Accepted e Sign d) c n f t = t d (f .act)
 asks-true (Accepted e (Store k) d) c n f t = tt
 
 module _ (m n : List ℕ) (s : Same m n) (ear : Switch → Hearing) (ok : (k : Switch) → Lawful (ear k)) (x : Turn) where
-  pub turn-alike : asked ear V1 m x .0 ≡ asked ear V2 n x .0
-  turn-alike =
+  pub answer-alike : asked ear V1 m x .0 ≡ asked ear V2 n x .0
+  answer-alike =
       told-alike m n (s .like) ear ok x
       (asks-true (ear (x .switch) (address n) (x .frame)) (contentsOf (x .frame)) n (ok (x .switch) .fits (address n) (x .frame)) (s .words))
 
@@ -261,7 +261,7 @@ module _ (ear : Switch → Hearing) (ok : (k : Switch) → Lawful (ear k)) where
   pub answers-alike : (m n : List ℕ) → Same m n → (xs : List Turn) → outcomes (asked ear V1) m xs ≡ outcomes (asked ear V2) n xs
   answers-alike m n s [] = refl
   answers-alike m n s (x ∷ xs) =
-      ap₂ _∷_ (turn-alike m n s ear ok x) (answers-alike (inTurn ear V1 m x .image) (inTurn ear V2 n x .image) (stays-same m n s ear ok x) xs)
+      ap₂ _∷_ (answer-alike m n s ear ok x) (answers-alike (inTurn ear V1 m x .image) (inTurn ear V2 n x .image) (stays-same m n s ear ok x) xs)
 
 -- fresh images hold the same
 pub fresh-same : (a : ℕ) → a ≢ 0 → Same (fresh V1 a) (fresh V2 a)

@@ -1,5 +1,5 @@
--- Two images that hold the same are each other, moved. So a move there and back gives the same bytes, and back and there too where the words were true.
--- Assumes nothing.
+-- Of two images that hold the same, the first is the second moved down, and the second is the first moved up if its words are the two bytes of each sum.
+-- So a move there and back gives the same bytes, and back and there too where the words were true. Assumes nothing.
 use mathlib.Core.Path.{_≡_, sym, ap, _∙_}
 use mathlib.Core.List.{List}
 use mathlib.Core.Bool.{true}

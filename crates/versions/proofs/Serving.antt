@@ -16,7 +16,7 @@ use Rattle.izk.proofs.Serving.{usable-stays}
 use Rattle.izk.proofs.Turns.{by-turns}
 use Rattle.kept.specs.Same.{AsksTrue, asked}
 use Rattle.kept.proofs.Truth.{stays-true}
-use Rattle.kept.proofs.Alike.{numbers-alike, lengths-alike, stays-like, told-alike, turn-alike, stays-same, answers-alike, held-alike}
+use Rattle.kept.proofs.Alike.{numbers-alike, lengths-alike, stays-like, told-alike, answer-alike, stays-same, answers-alike, held-alike}
 use Rattle.versions.specs.Moved.{inVersion}
 use Rattle.versions.proofs.Words.{summed, call-low}
 use Rattle.versions.proofs.RoundTrip.{up-like, up-true, up-same, up-low, down-like, down-same, down-is, up-is}
@@ -28,7 +28,7 @@ module _ (ear : Switch → Hearing) (ok : (s : Switch) → Lawful (ear s)) where
   module _ (m : List ℕ) (u : usable V1 m ≡ true) where
     -- number, length and whole output
     pub up-answers : (x : Turn) → asked ear V1 m x .0 ≡ asked ear V2 (inVersion V2 m) x .0
-    up-answers x = turn-alike m (inVersion V2 m) (up-same m u) ear ok x
+    up-answers x = answer-alike m (inVersion V2 m) (up-same m u) ear ok x
 
     -- moved and served, or served and moved
     pub up-commutes : (x : Turn) → inTurn ear V2 (inVersion V2 m) x .image ≡ inVersion V2 (inTurn ear V1 m x .image)
@@ -56,7 +56,7 @@ module _ (ear : Switch → Hearing) (ok : (s : Switch) → Lawful (ear s)) where
   module _ (n : List ℕ) (u : usable V2 n ≡ true) where
     -- where the words were true
     pub down-answers : (x : Turn) → TrueWords n → asked ear V2 n x .0 ≡ asked ear V1 (inVersion V1 n) x .0
-    down-answers x t = sym (turn-alike (inVersion V1 n) n (down-same n u t) ear ok x)
+    down-answers x t = sym (answer-alike (inVersion V1 n) n (down-same n u t) ear ok x)
 
     -- where some are false, every frame that asks for none of these
     pub down-answers-but : (x : Turn) → AsksTrue (ear (x .switch) (address n) (x .frame)) n → asked ear V2 n x .0 ≡ asked ear V1 (inVersion V1 n) x .0

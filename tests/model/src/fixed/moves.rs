@@ -101,7 +101,7 @@ fn head(version: u8, address: u8) -> Change {
     Change::Bytes(0, vec![b'I', b'Z', b'K', 0, version, address])
 }
 
-/// A source with something in every cell, and sums of which no two are alike.
+/// A source with something in every item, and sums of which no two are alike.
 /// Behind a version 1 image the same words lie as in a version 2 image.
 fn each(way: Way) -> Vec<Change> {
     let held = HELD.iter().flat_map(|word| word.to_be_bytes());

@@ -81,7 +81,8 @@ fn there(script: &mut Script, rng: &mut Rng, way: Way) {
     script.moved(way).exchange();
 }
 
-/// A version 2 image with something in every cell, by calls alone.
+/// A version 2 image with mask, mode, clock and something in every item, by
+/// calls alone.
 fn by_calls(script: &mut Script, rng: &mut Rng, address: u8) {
     script.image_length(IMAGE_BYTES).fresh(address);
     for command in [51, 76, 77] {

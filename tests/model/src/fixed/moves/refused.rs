@@ -1,5 +1,5 @@
 //! What a move refuses, and what is just not refused yet: each thing that is
-//! judged is changed on an image with something in every cell, and is right
+//! judged is changed on an image with something in every item, and is right
 //! again before the next.
 
 use super::{beside, each, Way, DOWN, SUMS, UP};
