@@ -13,7 +13,7 @@ use Rattle.laws.specs.Bits.{withBit}
 use Rattle.laws.specs.Checks.{judged}
 use Rattle.laws.proofs.Tests.{never}
 use Rattle.laws.proofs.Bytes.{In, length-lay, lay-in, lay-out, slice-both, length-two}
-use Rattle.reorder.specs.Reorder.{outcomes}
+use Rattle.reorder.specs.Reorder.{outcomes, final}
 use Rattle.frame.specs.Apart.{contentsOf}
 use Rattle.frame.specs.Built.{frameOf}
 use Rattle.frame.proofs.FrameLaid.{length-frame}
@@ -46,7 +46,7 @@ use Rattle.rules.specs.Fits.{Fit, FitVerdict}
 use Rattle.command.specs.Act.{says, leaves}
 use Rattle.command.specs.Reply.{refusal, done, BuffersAfter, sent}
 use Rattle.izk.specs.Heard.{heard, answered, Hearing, Lawful}
-use Rattle.izk.specs.Since.{Turn, inTurn}
+use Rattle.izk.specs.Since.{Turn, inTurn, left}
 use Rattle.izk.proofs.Hearing.{heard-lawful}
 use Rattle.izk.proofs.Serving.{unusable-is-1, served-is, no-room-is-2, usable-stays}
 use Rattle.kept.specs.Same.{Common, Like, Same, AsksTrue, told, asked}
@@ -66,6 +66,11 @@ module _ (m n : List ℕ) (long : imageLength V1 ≤ length m) (long′ : imageL
 
   common-slice : (a k : ℕ) → 5 ≤ a → a + k ≤ imageLength V1 → slice a k m ≡ slice a k n
   common-slice a k low high = slice-both m n a k (omega arith) (omega arith) (λ i p. same i (omega arith) (omega arith))
+
+  pub sums-alike : (d : Cell) → isItem d ≡ true → fullSum d m ≡ fullSum d n
+  unfolding fullSum
+  sums-alike d h =
+      ap (λ (l : List ℕ). sumOf l % 65536) (common-slice (offset d) (size d) (omega (arith, item-low d h)) (item-inside V1 d h))
 
   -- a part's bit is set alike in both, whatever the part's bytes were
   common-bits : (o o′ new new′ : List ℕ) (d : Cell) → isCell d ≡ true → Common (touchedAll o new (bits d) m) (touchedAll o′ new′ (bits d) n)
@@ -99,12 +104,6 @@ module _ (m n : List ℕ) (s : Like m n) where
   long′ : imageLength V1 ≤ length n
   long′ = omega (arith, facts V2 n (s .second) .long-is)
 
-  pub sums-alike : (d : Cell) → isItem d ≡ true → fullSum d m ≡ fullSum d n
-  unfolding fullSum
-  sums-alike d h =
-      ap (λ (l : List ℕ). sumOf l % 65536)
-      (common-slice m n long long′ (s .bytes) (offset d) (size d) (omega (arith, item-low d h)) (item-inside V1 d h))
-
   -- ---- an act
 
   stored-alike : (d : Cell) (bs : List ℕ) → FitStore d bs → Common (stored V1 d bs m) (stored V2 d bs n)
@@ -135,7 +134,7 @@ module _ (m n : List ℕ) (s : Like m n) where
       let few = extent-fits V1 m (facts V1 m (s .first)) d f in
       common-slice m n long long′ (s .bytes) (offset d) (extent d (getD m (offset d) 0)) (omega (arith, p .low)) (omega (arith, p .high, few))
       ∙ ap (λ (k : ℕ). slice (offset d) (extent d k) n) z
-  says-alike e Sign d c f t = ap two (sums-alike d f ∙ sym t)
+  says-alike e Sign d c f t = ap two (sums-alike m n long long′ (s .bytes) d f ∙ sym t)
   says-alike e (Store k) d c f t = refl
 
   -- whatever the words say, a signature has two bytes
@@ -173,12 +172,10 @@ module _ (m n : List ℕ) (s : Like m n) where
     abbrev verdict : Verdict
     verdict = ear (x .switch) (address n) (x .frame)
 
-    abbrev contents : List ℕ
-    contents = contentsOf (x .frame)
-
     -- both refuse it 2, or both do what one verdict says
     turn-both : (R : BuffersAfter → BuffersAfter → Type 0) → R (sent (refusal 2 m) (x .out)) (sent (refusal 2 n) (x .out))
-        → R (sent (done V1 verdict contents m) (x .out)) (sent (done V2 verdict contents n) (x .out)) → R (inTurn ear V1 m x) (inTurn ear V2 n x)
+        → R (sent (done V1 verdict (contentsOf (x .frame)) m) (x .out)) (sent (done V2 verdict (contentsOf (x .frame)) n) (x .out))
+        → R (inTurn ear V1 m x) (inTurn ear V2 n x)
     unfolding answered
     turn-both R refused through = go (decLe 269 (length (x .out)))
       where
@@ -197,29 +194,29 @@ module _ (m n : List ℕ) (s : Like m n) where
 
     -- whatever the words say, and whatever hears the frame
     pub numbers-alike : inTurn ear V1 m x .number ≡ inTurn ear V2 n x .number
-    numbers-alike = turn-both (λ a b. a .number ≡ b .number) refl (number-alike verdict contents)
+    numbers-alike = turn-both (λ a b. a .number ≡ b .number) refl (number-alike verdict (contentsOf (x .frame)))
 
   module _ (ear : Switch → Hearing) (ok : (k : Switch) → Lawful (ear k)) (x : Turn) where
-    fits : FitVerdict (verdict ear x) (contents ear x)
+    fits : FitVerdict (verdict ear x) (contentsOf (x .frame))
     fits = ok (x .switch) .fits (address n) (x .frame)
 
     -- whatever the words say
     pub lengths-alike : inTurn ear V1 m x .len ≡ inTurn ear V2 n x .len
-    lengths-alike = turn-both ear x (λ a b. a .len ≡ b .len) refl (reply-long (verdict ear x) (contents ear x) fits)
+    lengths-alike = turn-both ear x (λ a b. a .len ≡ b .len) refl (reply-long (verdict ear x) (contentsOf (x .frame)) fits)
 
     pub stays-like : Like (inTurn ear V1 m x .image) (inTurn ear V2 n x .image)
     stays-like =
         record {
           first = usable-stays (ear (x .switch)) (ok (x .switch)) V1 (x .frame) m (x .out) (s .first);
           second = usable-stays (ear (x .switch)) (ok (x .switch)) V2 (x .frame) n (x .out) (s .second);
-          bytes = turn-both ear x (λ a b. Common (a .image) (b .image)) (s .bytes) (image-alike (verdict ear x) (contents ear x) fits);
+          bytes = turn-both ear x (λ a b. Common (a .image) (b .image)) (s .bytes) (image-alike (verdict ear x) (contentsOf (x .frame)) fits);
         }
 
     -- number, length and whole output, where no false word is asked for
     pub told-alike : AsksTrue (verdict ear x) n → asked ear V1 m x .0 ≡ asked ear V2 n x .0
     told-alike t =
         turn-both ear x (λ a b. told a ≡ told b) refl
-        (rw (number-alike (verdict ear x) (contents ear x), reply-alike (verdict ear x) (contents ear x) fits t))
+        (rw (number-alike (verdict ear x) (contentsOf (x .frame)), reply-alike (verdict ear x) (contentsOf (x .frame)) fits t))
 
   -- held parts, of any table
   pub held-alike : (t : ℕ) → heldParts V1 m t ≡ heldParts V2 n t
@@ -238,19 +235,29 @@ pub told-each : (a b : BuffersAfter) → told a ≡ told b → (a .number ≡ b 
 told-each a b e =
     (ap (λ (k : ℕ × ℕ × List ℕ). k .0) e, ap (λ (k : ℕ × ℕ × List ℕ). k .1) e, ap (λ (k : ℕ × ℕ × List ℕ). k .2) e)
 
+-- and what a turn leaves is what the next one finds
+pub asked-leaves : (ear : Switch → Hearing) (v : Version) (m : List ℕ) (xs : List Turn) → final (asked ear v) m xs ≡ left ear v m xs
+unfolding left
+asked-leaves ear v m [] = refl
+asked-leaves ear v m (x ∷ xs) = asked-leaves ear v (inTurn ear v m x .image) xs
+
+-- a verdict that signs no item, or one whose word is true, asks for no false word
+pub asks-signed : (r : Verdict) (n : List ℕ) → ((e : ℕ) (d : Cell) → r ≡ Accepted e Sign d → signature V2 d n ≡ fullSum d n) → AsksTrue r n
+asks-signed (Refused k) n h = tt
+asks-signed (Accepted e Show d) n h = tt
+asks-signed (Accepted e Sign d) n h = h e d refl
+asks-signed (Accepted e (Store k) d) n h = tt
+
 -- ---- with true words
 
 asks-true : (r : Verdict) (c n : List ℕ) → FitVerdict r c → TrueWords n → AsksTrue r n
-asks-true (Refused k) c n f t = tt
-asks-true (Accepted e Show d) c n f t = tt
-asks-true (Accepted e Sign d) c n f t = t d (f .act)
-asks-true (Accepted e (Store k) d) c n f t = tt
+asks-true r c n f t = asks-signed r n (λ e d is. let fit = rw is at f in t d (fit .act))
 
 module _ (m n : List ℕ) (s : Same m n) (ear : Switch → Hearing) (ok : (k : Switch) → Lawful (ear k)) (x : Turn) where
   pub answer-alike : asked ear V1 m x .0 ≡ asked ear V2 n x .0
   answer-alike =
       told-alike m n (s .like) ear ok x
-      (asks-true (ear (x .switch) (address n) (x .frame)) (contentsOf (x .frame)) n (ok (x .switch) .fits (address n) (x .frame)) (s .words))
+      (asks-true (verdict m n (s .like) ear x) (contentsOf (x .frame)) n (fits m n (s .like) ear ok x) (s .words))
 
   pub stays-same : Same (inTurn ear V1 m x .image) (inTurn ear V2 n x .image)
   stays-same = record { like = stays-like m n (s .like) ear ok x; words = call-true ear ok n x (s .words) }

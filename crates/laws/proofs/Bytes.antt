@@ -145,7 +145,7 @@ pub lay-whole : (z l : List ℕ) → length l ≡ length z → lay z 0 l ≡ l
 lay-whole z l e = let h : length z ≤ length l = omega arith in lay-start z l (omega arith) ∙ rw (drop-of-length-le z h, append-nil)
 
 -- bytes laid in the front of a list, and so in what was laid at its start
-pub lay-front : (l r : List ℕ) (k : ℕ) (vs : List ℕ) → k + length vs ≤ length l → lay (l ++ r) k vs ≡ lay l k vs ++ r
+lay-front : (l r : List ℕ) (k : ℕ) (vs : List ℕ) → k + length vs ≤ length l → lay (l ++ r) k vs ≡ lay l k vs ++ r
 unfolding lay
 lay-front [] r zero [] h = lay-none r 0
 lay-front [] r zero (v ∷ vs) h = absurd (omega arith)

@@ -3,7 +3,7 @@ use mathlib.Core.Path.{_≡_, sym, ap, _∙_}
 use mathlib.Core.Logic.{_≢_}
 use mathlib.Core.List.{List}
 use mathlib.Core.Bool.{true}
-use Prim.Native.Nat.{ℕ, _+_, _*_, _%_, _<_}
+use Prim.Native.Nat.{ℕ, _+_, _*_, _%_, _≤_, _<_}
 use native.Mathlib.Omega.{arith}
 use lib.ListN.{length, getD}
 use Rattle.laws.specs.Bytes.{slice, sumOf}
@@ -28,7 +28,7 @@ use Rattle.kept.specs.Reached.{Reached}
 use Rattle.kept.proofs.Alike.{told-each}
 use Rattle.versions.specs.Moved.{inVersion, other, moved}
 use Rattle.versions.proofs.Refusals.{both-fit, Ended, made, kept, ended}
-use Rattle.versions.proofs.Moved.{length-moved, byte-kept, number-laid, TwoAt, words-laid, long-source, moved-usable}
+use Rattle.versions.proofs.Moved.{length-moved, byte-kept, number-laid, TwoAt, words-laid, moved-usable}
 use Rattle.versions.proofs.RoundTrip.{up-then-down, down-then-up}
 use Rattle.versions.proofs.Serving.{up-answers, up-commutes, down-answers, down-commutes}
 use Rattle.versions.proofs.Reaching.{moved-reached}
@@ -104,14 +104,18 @@ module _ (s : Switch) (f m t out : List ℕ) (r : ℕ) (n : List ℕ) where
       let w = rw e at q in
       ((w .number-is ∙ y .0, w .len-is ∙ y .1, w .out-is ∙ y .2), w .image-is ∙ up-commutes heard heard-lawful m u turn)
 
-  -- the block on what is moved down, and a block of version 1 on what that leaves: where the words were true
-  pub down-serves : Makes (moved V1 m t) r n → r ≡ 0 → TrueWords m → (a : Answer) (m′ o : List ℕ) → Serves (served (heard s) current f m out) a m′ o
-      → let b = served (heard s) V1 f n out in Alike a o b × (b .image ≡ inVersion V1 m′)
-  down-serves p z true-words a m′ o q =
+  -- the block on what is moved down, and a block of version 1 on what that leaves: the answers where the words were true, the image whatever they said
+  pub down-serves : Makes (moved V1 m t) r n → r ≡ 0 → (a : Answer) (m′ o : List ℕ) → Serves (served (heard s) current f m out) a m′ o
+      → let b = served (heard s) V1 f n out in (TrueWords m → Alike a o b) × (b .image ≡ inVersion V1 m′)
+  down-serves p z a m′ o q =
       let (u, l, e) = move-done V1 m t r n p z in
-      let y = told-each (inTurn heard V2 m turn) (inTurn heard V1 (inVersion V1 m) turn) (down-answers heard heard-lawful m u turn true-words) in
       let i = q .image-is in
-      rw (e, i) ((q .number-is ∙ y .0, q .len-is ∙ y .1, q .out-is ∙ y .2), down-commutes heard heard-lawful m u turn)
+      rw (e, i) (
+        λ true-words.
+            let y = told-each (inTurn heard V2 m turn) (inTurn heard V1 (inVersion V1 m) turn) (down-answers heard heard-lawful m u turn true-words) in
+            (q .number-is ∙ y .0, q .len-is ∙ y .1, q .out-is ∙ y .2),
+        down-commutes heard heard-lawful m u turn,
+      )
 
 -- ---- in the documents' numbers
 
@@ -120,20 +124,19 @@ abbrev pub Leaves : ℕ → ℕ → List ℕ → List ℕ → Type 0
 Leaves long number m n =
     (length n ≡ long) × (getD n 3 0 ≡ 0) × (getD n 4 0 ≡ number) × ((i : ℕ) → i < 23753 → i ≢ 3 → i ≢ 4 → getD n i 0 ≡ getD m i 0)
 
-leaves : (v : Version) (m : List ℕ) → usable (other v) m ≡ true → Leaves (imageLength v) (versionNumber v) m (inVersion v m)
-leaves v m u =
-    let l = long-source v m u in
+leaves : (v : Version) (m : List ℕ) → imageLength V1 ≤ length m → Leaves (imageLength v) (versionNumber v) m (inVersion v m)
+leaves v m l =
     let n = number-laid v m l in
     (length-moved v m l, n .0, n .1, λ i h a b. byte-kept v m l i h (λ p. absurd (a (omega arith))))
 
-pub up-leaves : (m : List ℕ) → usable V1 m ≡ true → Leaves 23817 2 m (inVersion V2 m)
-up-leaves m u = leaves V2 m u
+pub up-leaves : (m : List ℕ) → 23753 ≤ length m → Leaves 23817 2 m (inVersion V2 m)
+up-leaves = leaves V2
 
-pub down-leaves : (m : List ℕ) → usable V2 m ≡ true → Leaves 23753 1 m (inVersion V1 m)
-down-leaves m u = leaves V1 m u
+pub down-leaves : (m : List ℕ) → 23753 ≤ length m → Leaves 23753 1 m (inVersion V1 m)
+down-leaves = leaves V1
 
 -- behind these, a move up leaves the sums of the sixteen tables, the eight channels of constants and the eight error tables, two bytes each
-module _ (m : List ℕ) (u : usable V1 m ≡ true) where
+module _ (m : List ℕ) (long : 23753 ≤ length m) where
   pub up-words : ((k : ℕ) → k < 16 → TwoAt (inVersion V2 m) (23753 + 2 * k) (sumOf (slice (1225 + 1408 * k) 1408 m) % 65536))
       × ((c : ℕ) → c < 8 → TwoAt (inVersion V2 m) (23785 + 2 * c) (sumOf (slice (49 + 83 * c) 83 m) % 65536))
       × ((e : ℕ) → e < 8 → TwoAt (inVersion V2 m) (23801 + 2 * e) (sumOf (slice (713 + 64 * e) 64 m) % 65536))
@@ -141,14 +144,14 @@ module _ (m : List ℕ) (u : usable V1 m ≡ true) where
   up-words = (table, constants, errors)
     where
       table : (k : ℕ) → k < 16 → TwoAt (inVersion V2 m) (23753 + 2 * k) (sumOf (slice (1225 + 1408 * k) 1408 m) % 65536)
-      table k l = rw (at-table k l) at (words-laid m (long-source V2 m u) k (omega arith))
+      table k l = rw (at-table k l) at (words-laid m long k (omega arith))
 
       constants : (c : ℕ) → c < 8 → TwoAt (inVersion V2 m) (23785 + 2 * c) (sumOf (slice (49 + 83 * c) 83 m) % 65536)
       constants c l =
           let e : keptOffset (16 + c) ≡ 23785 + 2 * c = omega arith in
-          rw (at-constants c l, e) at (words-laid m (long-source V2 m u) (16 + c) (omega arith))
+          rw (at-constants c l, e) at (words-laid m long (16 + c) (omega arith))
 
       errors : (t : ℕ) → t < 8 → TwoAt (inVersion V2 m) (23801 + 2 * t) (sumOf (slice (713 + 64 * t) 64 m) % 65536)
       errors t l =
           let e : keptOffset (24 + t) ≡ 23801 + 2 * t = omega arith in
-          rw (at-errors t l, e) at (words-laid m (long-source V2 m u) (24 + t) (omega arith))
+          rw (at-errors t l, e) at (words-laid m long (24 + t) (omega arith))

@@ -20,10 +20,10 @@ use Rattle.image.specs.Usable.{usable}
 use Rattle.image.proofs.UsableFacts.{facts, begins-as}
 use Rattle.image.proofs.Kept.{item-is, Counts, nowhere, in-word, counts-view}
 use Rattle.storing.specs.Signature.{fullSum, wordKept, TrueWords}
-use Rattle.kept.specs.Same.{Like, Same}
+use Rattle.kept.specs.Same.{Common, Like, Same}
 use Rattle.kept.proofs.Alike.{sums-alike}
 use Rattle.versions.specs.Moved.{numberOffset, inVersion}
-use Rattle.versions.proofs.Moved.{byte-kept, TwoAt, word-of, words-laid, long-source, moved-usable}
+use Rattle.versions.proofs.Moved.{length-moved, byte-kept, TwoAt, word-of, words-laid, long-source, moved-usable}
 use Rattle.versions.proofs.Words.{Summed, Low, summed}
 
 behind-number : {i : ℕ} → 5 ≤ i → ¬ In numberOffset 2 i
@@ -31,16 +31,11 @@ behind-number l p = absurd (omega arith)
 
 -- ---- an image and the one that it is moved to hold the same
 
-module _ (m : List ℕ) (u : usable V1 m ≡ true) where
-  pub up-like : Like m (inVersion V2 m)
-  up-like =
-      record {
-        first = u;
-        second = moved-usable V2 m u;
-        bytes = λ i low high. sym (byte-kept V2 m (long-source V2 m u) i high (behind-number low));
-      }
+module _ (m : List ℕ) (long : imageLength V1 ≤ length m) where
+  up-common : Common m (inVersion V2 m)
+  up-common i low high = sym (byte-kept V2 m long i high (behind-number low))
 
-  -- every word is true, whatever the target held
+  -- every word is true
   pub up-true : TrueWords (inVersion V2 m)
   up-true e item = go (counts-view e) item
     where
@@ -48,14 +43,19 @@ module _ (m : List ℕ) (u : usable V1 m ≡ true) where
       go (nowhere a) h = absurd (a h)
       go (in-word i a) h =
           let (l, is) = a .is h in
-          word-of (inVersion V2 m) (keptOffset i) (fullSum (itemAt i) m) (words-laid m (long-source V2 m u) i l)
-          ∙ ap (λ (c : Cell). fullSum c m) is ∙ sums-alike m (inVersion V2 m) up-like e h
-
-  pub up-same : Same m (inVersion V2 m)
-  up-same = record { like = up-like; words = up-true }
+          word-of (inVersion V2 m) (keptOffset i) (fullSum (itemAt i) m) (words-laid m long i l)
+          ∙ ap (λ (c : Cell). fullSum c m) is
+          ∙ sums-alike m (inVersion V2 m) long (omega (arith, length-moved V2 m long)) up-common e h
 
   pub up-low : Low (inVersion V2 m)
-  up-low i l = rw (words-laid m (long-source V2 m u) i l .low) (omega arith)
+  up-low i l = rw (words-laid m long i l .low) (omega arith)
+
+module _ (m : List ℕ) (u : usable V1 m ≡ true) where
+  pub up-like : Like m (inVersion V2 m)
+  up-like = record { first = u; second = moved-usable V2 m u; bytes = up-common m (long-source V2 m u) }
+
+  pub up-same : Same m (inVersion V2 m)
+  up-same = record { like = up-like; words = up-true m (long-source V2 m u) }
 
 pub down-like : (n : List ℕ) → usable V2 n ≡ true → Like (inVersion V1 n) n
 down-like n u =
@@ -93,8 +93,12 @@ module _ (m n : List ℕ) (s : Like m n) where
   pub up-is : Summed n → inVersion V2 m ≡ n
   up-is t = one-image V2 (inVersion V2 m) n (up-like m (s .first) .second) (s .second) (λ i low high. go i low high (decLt i (imageLength V1)))
     where
+      long : imageLength V1 ≤ length m
+      long = long-source V2 m (s .first)
+
       word : (k : ℕ) → k < 32 → TwoAt (inVersion V2 m) (keptOffset k) (fullSum (itemAt k) n)
-      word k l = rw (← sums-alike m n s (itemAt k) (item-is k l)) (words-laid m (long-source V2 m (s .first)) k l)
+      word k l =
+          rw (← sums-alike m n long (long-source V1 n (s .second)) (s .bytes) (itemAt k) (item-is k l)) (words-laid m long k l)
 
       -- the i-th byte of the words, from 0
       pair : (i : ℕ) → i < 64 → getD (inVersion V2 m) (imageLength V1 + i) 0 ≡ getD n (imageLength V1 + i) 0
@@ -127,7 +131,7 @@ down-then-up n u t b = up-is (inVersion V1 n) n (down-like n u) (summed n t (λ 
 -- whatever the words said, they are true then, and no other byte has changed
 pub down-up-mends : (n : List ℕ) → usable V2 n ≡ true
     → let k = inVersion V2 (inVersion V1 n) in TrueWords k × ((i : ℕ) → i < imageLength V1 → getD k i 0 ≡ getD n i 0)
-down-up-mends n u = (up-true m w, λ i l. go i l (decLt i 5))
+down-up-mends n u = (up-true m (long-source V2 m w), λ i l. go i l (decLt i 5))
   where
     m : List ℕ
     m = inVersion V1 n

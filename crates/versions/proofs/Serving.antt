@@ -3,9 +3,11 @@
 use mathlib.Core.Path.{_≡_, refl, sym}
 use mathlib.Core.List.{List}
 use mathlib.Core.Bool.{true}
-use Prim.Native.Nat.{ℕ}
+use Prim.Native.Nat.{ℕ, _≤_}
+use lib.ListN.{length}
 use Rattle.reorder.specs.Reorder.{outcomes}
 use Rattle.image.specs.declared.version.Version.the-variants.{V1, V2}
+use Rattle.image.specs.Version.{imageLength}
 use Rattle.image.specs.Usable.{usable, address}
 use Rattle.image.specs.Held.{heldParts}
 use Rattle.storing.specs.Signature.{TrueWords}
@@ -18,6 +20,7 @@ use Rattle.kept.specs.Same.{AsksTrue, asked}
 use Rattle.kept.proofs.Truth.{stays-true}
 use Rattle.kept.proofs.Alike.{numbers-alike, lengths-alike, stays-like, told-alike, answer-alike, stays-same, answers-alike, held-alike}
 use Rattle.versions.specs.Moved.{inVersion}
+use Rattle.versions.proofs.Moved.{long-source}
 use Rattle.versions.proofs.Words.{summed, call-low}
 use Rattle.versions.proofs.RoundTrip.{up-like, up-true, up-same, up-low, down-like, down-same, down-is, up-is}
 
@@ -35,15 +38,15 @@ module _ (ear : Switch → Hearing) (ok : (s : Switch) → Lawful (ear s)) where
     up-commutes x =
         let n = inVersion V2 m in
         let s = stays-same m n (up-same m u) ear ok x in
-        sym (up-is (inTurn ear V1 m x .image) (inTurn ear V2 n x .image) (s .like) (summed _ (s .words) (call-low ear ok n x (up-low m u))))
+        sym (up-is (inTurn ear V1 m x .image) (inTurn ear V2 n x .image) (s .like) (summed _ (s .words) (call-low ear ok n x (up-low m (long-source V2 m u)))))
 
     -- and so for every list of frames
     pub up-answers-all : (xs : List Turn) → outcomes (asked ear V1) m xs ≡ outcomes (asked ear V2) (inVersion V2 m) xs
     up-answers-all xs = answers-alike ear ok m (inVersion V2 m) (up-same m u) xs
 
-    -- from there on every word is true
-    pub up-stays-true : (xs : List Turn) → TrueWords (left ear V2 (inVersion V2 m) xs)
-    up-stays-true xs = stays-true ear ok (inVersion V2 m) xs (up-true m u)
+  -- from there on every word is true
+  pub up-stays-true : (m : List ℕ) → imageLength V1 ≤ length m → (xs : List Turn) → TrueWords (left ear V2 (inVersion V2 m) xs)
+  up-stays-true m long xs = stays-true ear ok (inVersion V2 m) xs (up-true m long)
 
   pub up-commutes-all : (m : List ℕ) (xs : List Turn) → usable V1 m ≡ true → left ear V2 (inVersion V2 m) xs ≡ inVersion V2 (left ear V1 m xs)
   unfolding left

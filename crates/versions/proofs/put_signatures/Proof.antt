@@ -33,7 +33,7 @@ item-requires : tie.Need-item-requires Inv-loop μ-loop
 item-requires c κs = search needs
 
 full-sum-requires : tie.Need-full-sum-requires Inv-loop μ-loop
-full-sum-requires c κs = (rw (c .item .ensures) (item-is _ (c .before .before .loop-test .taken)), c .before .before .before .before .before .before .pre .0)
+full-sum-requires c κs = (rw (c .item .ensures) (item-is _ (omega arith)), c .before .before .before .before .before .before .pre .0)
 
 put-word-requires : tie.Need-put-word-requires Inv-loop μ-loop
 put-word-requires c κs = omega arith
