@@ -28,7 +28,7 @@ commands-use = refl
 -- ---- so of whatever follows a rule
 
 -- what is named is given by the two bytes
-named-by : (s : Names) (c : List ℕ) (d : Cell) → namedBy s c ≡ Named′.Cell d → d ≡ cellBy s (byte c 3) (byte c 4)
+pub named-by : (s : Names) (c : List ℕ) (d : Cell) → namedBy s c ≡ Named′.Cell d → d ≡ cellBy s (byte c 3) (byte c 4)
 unfolding constantsNamed errorsNamed tableNamed partNamed rowsNamed
 named-by N.Mask c d e = cc
 named-by N.Mode c d e = cc

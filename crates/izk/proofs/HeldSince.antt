@@ -40,7 +40,7 @@ use Rattle.izk.proofs.Turns.{Went, refused, accepted, went, by-turns, l
 -- ---- what the tests of a turn mean
 
 module _ (t p : ℕ) (c : List ℕ) where
-  write-is : writesPart t p c ≡ true → (byte c 2 ≡ 59) × (byte c 3 ≡ t) × (byte c 4 ≡ p)
+  pub write-is : writesPart t p c ≡ true → (byte c 2 ≡ 59) × (byte c 3 ≡ t) × (byte c 4 ≡ p)
   unfolding writesPart
   write-is h =
       let x = and-both _ _ h in
@@ -82,7 +82,7 @@ module _ (ear : Switch → Hearing) (ok : (s : Switch) → Lawful (ear s)) (v : 
         let fit = rw (s .acts) at (accepted-fits (ear k) (ok k) f m e a d h .act) in
         rw (s .acts) (own-bit v d (drop 4 c) fit m (facts v m u .long-is) (tableIndex t) (p - 1) i)
 
-    stores-own : (n : ℕ) → ear k (address m) f ≡ Accepted e (Store n) d → d ≡ Part (tableIndex t) (p - 1) → writesPart t p c ≡ true
+    pub stores-own : (n : ℕ) → ear k (address m) f ≡ Accepted e (Store n) d → d ≡ Part (tableIndex t) (p - 1) → writesPart t p c ≡ true
     stores-own n h i =
         let r = ok k .known (address m) f h in
         let follows = ok k .follows (address m) f (r .0) h (r .1) in

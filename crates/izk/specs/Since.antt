@@ -26,9 +26,13 @@ module _ (ear : Switch → Hearing) (v : Version) where
   abbrev pub inTurn : List ℕ → Turn → BuffersAfter
   inTurn m x = served (ear (x .switch)) v (x .frame) m (x .out)
 
+  -- with the image that the next one finds
+  abbrev pub turned : List ℕ → Turn → BuffersAfter × List ℕ
+  turned m x = (inTurn m x, inTurn m x .image)
+
   -- the image that is left in the end
   unfoldable pub left : List ℕ → List Turn → List ℕ
-  left m xs = final (λ m x. (inTurn m x, inTurn m x .image)) m xs
+  left m xs = final turned m xs
 
   -- some turn met a test of the image that it found and of itself
   unfoldable pub ever : (List ℕ → Turn → Bool) → List ℕ → List Turn → Bool

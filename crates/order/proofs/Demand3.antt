@@ -5,7 +5,7 @@ use mathlib.Core.List.{List, [], _++_}
 use Prim.Native.Nat.{ℕ, _+_, _<_}
 use lib.ListN.{length, getD, take}
 use Rattle.reorder.specs.Reorder.{outcomes, Commutes, place, pick, Reorders, NoClash, KeepsClashes, SameService}
-use Rattle.reorder.proofs.Order.{keeping-order, any-order}
+use Rattle.reorder.proofs.Order.{none-to-keep, keeping-order}
 use Rattle.reorder.proofs.Readings.{each-outcome, alike-service}
 use Rattle.frame.specs.Apart.{contentsOf}
 use Rattle.frame.specs.Built.{frameOf}
@@ -25,7 +25,7 @@ use Rattle.order.specs.Serving.{Call, nothing, framesOf, step, Good, Mee
 -- ---- two verdicts of which the first does not meet the second
 
 -- what serving by a verdict gives, as a step
-abbrev did : Version → Verdict → List ℕ → List ℕ → (ℕ × List ℕ) × List ℕ
+abbrev pub did : Version → Verdict → List ℕ → List ℕ → (ℕ × List ℕ) × List ℕ
 did v x c m = ((done v x c m .number, done v x c m .reply), done v x c m .image)
 
 clear : (e k : ℕ) (a b : Act) (d d′ : Cell) → ¬ Meets (Accepted e a d) (Accepted k b d′) → Clear a d b d′
@@ -49,22 +49,22 @@ independent v c c′ m u (Accepted e a d) (Accepted k b d′) f g h =
 -- ---- two calls
 
 module _ (ear : Hearing) (ok : Lawful ear) (v : Version) (a : ℕ) where
-  clash-turn : (x y : Call) → Clash ear a x y → Clash ear a y x
+  pub clash-turn : (x y : Call) → Clash ear a x y → Clash ear a y x
   clash-turn x y (inl h) = inr h
   clash-turn x y (inr h) = inl h
 
   -- what a call does, by what is heard
-  abbrev does : Call → List ℕ → (ℕ × List ℕ) × List ℕ
+  abbrev pub does : Call → List ℕ → (ℕ × List ℕ) × List ℕ
   does x m = did v (ear a (x .frame)) (contentsOf (x .frame)) m
 
-  step-is : (m : List ℕ) (x : Call) → Good v a m → step ear v m x ≡ does x m
+  pub step-is : (m : List ℕ) (x : Call) → Good v a m → step ear v m x ≡ does x m
   unfolding answered
   step-is m x g =
       ap₂ (λ (t : BuffersAfter) (l : List ℕ). ((t .number, l), t .image)) (served-is ear v (x .frame) m (x .out) (g .0) (x .room))
       (reply-seen ear ok v (x .frame) m (x .out) (g .0) (x .room))
       ∙ ap (λ (b : ℕ). did v (ear b (x .frame)) (contentsOf (x .frame)) m) (g .1)
 
-  stays : (m : List ℕ) (x : Call) → Good v a m → Good v a (step ear v m x .1)
+  pub stays : (m : List ℕ) (x : Call) → Good v a m → Good v a (step ear v m x .1)
   stays m x g =
       rw (served-is ear v (x .frame) m (x .out) (g .0) (x .room))
       (answered-usable ear ok v (x .frame) m (g .0), answered-address ear ok v (x .frame) m (g .0) ∙ g .1)
@@ -101,15 +101,16 @@ module _ (ear : Hearing) (ok : Lawful ear) (v : Version) (a : ℕ) where
     same-frames : SameService (step ear v) (0, []) m xs (pick nothing xs o) o → SameService (step ear v) (0, []) m xs ys o
     same-frames = alike-service (step ear v) (Good v a) stays (λ x. x .frame) by-frame nothing (0, []) m xs ys o good frames
 
-    -- demand 3: in any order each frame has the number and the reply that it has in the list, and the image that is left is the list's
+    -- where calls clash, in any order that keeps theirs
+    pub keeping-order-serves : KeepsClashes (Clash ear a) nothing xs o → SameService (step ear v) (0, []) m xs ys o
+    keeping-order-serves k = same-frames (keeping-order (step ear v) (Good v a) (Clash ear a) stays commute nothing (0, []) xs o m good re k)
+
+    -- demand 3 is the case without a clash: in any order each frame has the number and the reply that it has in the list, and the image that is left
+    -- is the list's
     pub any-order-serves : NoClash (Clash ear a) nothing xs → SameService (step ear v) (0, []) m xs ys o
-    any-order-serves n = same-frames (any-order (step ear v) (Good v a) (Clash ear a) stays commute nothing (0, []) clash-turn xs o m good re n)
+    any-order-serves n = keeping-order-serves (none-to-keep (Clash ear a) nothing clash-turn xs o re n)
 
     -- by place
     pub any-order-answers : NoClash (Clash ear a) nothing xs → (k : ℕ) → k < length o
         → getD (outcomes (step ear v) m ys) k (0, []) ≡ getD (outcomes (step ear v) m xs) (place o k) (0, [])
     any-order-answers n = each-outcome (step ear v) (0, []) m xs ys o (any-order-serves n)
-
-    -- and where calls clash, in any order that keeps theirs
-    pub keeping-order-serves : KeepsClashes (Clash ear a) nothing xs o → SameService (step ear v) (0, []) m xs ys o
-    keeping-order-serves k = same-frames (keeping-order (step ear v) (Good v a) (Clash ear a) stays commute nothing (0, []) xs o m good re k)

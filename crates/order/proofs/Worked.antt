@@ -31,7 +31,7 @@ use Rattle.izk.specs.Block.{served}
 use Rattle.izk.proofs.Hearing.{heard-lawful}
 use Rattle.order.specs.Serving.{Call, call, nothing, framesOf, step}
 use Rattle.order.proofs.Demand3.{any-order-serves}
-use Rattle.order.proofs.Tests.{disjoint, clear, noneMeet, quiet, no-clash-of}
+use Rattle.order.proofs.Tests.{disjoint, clear, apart, noneMeet, quiet, no-clash-of}
 
 -- n parts of table t from part p on, each byte of a part its number
 unfoldable pub partsSent : ℕ → ℕ → ℕ → List Call
@@ -66,7 +66,7 @@ unfolding undoes other back every
 redone = refl
 
 no-two-meet : quiet (heard Unsealed) 1 calls ≡ true
-unfolding quiet noneMeet clear disjoint all run calls partsSent othersSent heard recognised sought lets tried ruleOf commands when isTable tableIndex
+unfolding quiet noneMeet apart clear disjoint all run calls partsSent othersSent heard recognised sought lets tried ruleOf commands when isTable tableIndex
     tableNamed partNamed lengthOk endsOk inner bodyOf contentsOf sumOk frameChecks frameOf isDigit valueOf charOf charsOf bytesOf checksumOf judged
     within every slice sumOf
 no-two-meet = refl

@@ -1,17 +1,20 @@
 -- Demand 3's words for serving: a call, what it is answered, and when two calls clash (document 01, "Cells"). Assumes nothing.
 use mathlib.Core.Path.{_≡_}
 use mathlib.Core.Logic.{_⊎_}
-use mathlib.Core.List.{List, [], map, List·Memᴰ}
+use mathlib.Core.List.{List, [], _∷_, map, List·Memᴰ}
 use mathlib.Core.Bool.{true}
 use Prim.Native.Nat.{ℕ, _≤_}
 use native.Mathlib.Omega.{arith}
-use lib.ListN.{length, replicate, length-replicate}
+use lib.ListN.{length, take, replicate, length-replicate}
+use Rattle.output.specs.declared.answer.Answer.{Answer}
 use Rattle.image.specs.declared.cell.Cell.{Cell}
 use Rattle.image.specs.declared.version.Version.{Version}
+use Rattle.image.specs.Version.{current}
 use Rattle.image.specs.Usable.{usable, address}
+use Rattle.rules.specs.declared.switch.Switch.{Switch}
 use Rattle.rules.specs.declared.verdict.Verdict.{Verdict}
-use Rattle.command.specs.Reply.{readsOf, writesOf, replyIn}
-use Rattle.izk.specs.Heard.{Hearing}
+use Rattle.command.specs.Reply.{readsOf, writesOf, replyIn, Serves}
+use Rattle.izk.specs.Heard.{heard, Hearing}
 use Rattle.izk.specs.Block.{served}
 
 -- a frame, and an output with room, whatever stands in it
@@ -47,3 +50,12 @@ Meets x y = (c : Cell) × List·Memᴰ c (writesOf x) × (List·Memᴰ c (readsO
 -- at a block of address a, one of the two does so to the other
 abbrev pub Clash : Hearing → ℕ → Call → Call → Type 0
 Clash ear a x y = Meets (ear a (x .frame)) (ear a (y .frame)) ⊎ Meets (ear a (y .frame)) (ear a (x .frame))
+
+-- ---- calls of `serve` one after the other on one image, by its promise
+
+-- what each returned, with the reply that it left in its output, and the image that the last left
+pub data Ran (s : Switch) : List ℕ → List Call → List (ℕ × List ℕ) → List ℕ → Type 0 where
+  no-call : (m : List ℕ) → Ran s m [] [] m
+  a-call : (m : List ℕ) (x : Call) (xs : List Call) (r : Answer) (left written : List ℕ) (rest : List (ℕ × List ℕ)) (m′ : List ℕ)
+      → Serves (served (heard s) current (x .frame) m (x .out)) r left written → Ran s left xs rest m′
+      → Ran s m (x ∷ xs) ((r .number, take (r .len) written) ∷ rest) m′

@@ -1,13 +1,63 @@
 -- When the order of serving does not show, for any step. `keeping-order` is the theorem, `any-order` its case without a clash. Assumes nothing.
-use mathlib.Core.Path.{ap, subst}
-use mathlib.Core.Logic.{inl, inr}
+use mathlib.Core.Path.{_≡_, sym, ap, subst}
+use mathlib.Core.Logic.{_↔_, inl, inr}
 use mathlib.Core.List.{List, List·Memᴰ}
 use Prim.Native.Nat.{ℕ, _+_, _≤_, _<_}
 use native.Mathlib.Omega.{arith}
 use native.Mathlib.Decide.{decLt}
 use lib.ListN.{length, getD}
-use Rattle.reorder.specs.Reorder.{outcomes, final, Commutes, place, pick, Reorders, NoClash, KeepsClashes, SameService}
+use Rattle.reorder.specs.Reorder.{outcomes, final, Commutes, place, pick, Reorders, Before, NoClash, KeepsClashes, ClashesInOrder, SameService}
 use Rattle.reorder.proofs.Walk.{from, pairs-of, mem-place, place-mem, Leads, read-off, base, Free, reordered}
+
+-- ---- what keeps the order of those that clash
+
+module _ {F : Type 0} (Clash : F → F → Type 0) (d : F) (turn : (f g : F) → Clash f g → Clash g f) (fs : List F) (o : List ℕ) (re : Reorders (length fs) o) where
+  -- where no two clash, any reordering does
+  pub none-to-keep : NoClash Clash d fs → KeepsClashes Clash d fs o
+  none-to-keep none k m h l c = go (decLt (place o k) (place o m))
+    where
+      go : Dec (place o k < place o m) → place o k < place o m
+      go (yes p) = p
+      go (no p) =
+          let ne = re .once k m h l in
+          absurd (none (place o m) (place o k) (omega arith) (re .inside k (omega arith)) (turn (getD fs (place o k) d) (getD fs (place o m) d) c))
+
+  one-place : (a b : ℕ) → a < length o → b < length o → place o a ≡ place o b → a ≡ b
+  one-place a b la lb e = go (decLt a b) (decLt b a)
+    where
+      go : Dec (a < b) → Dec (b < a) → a ≡ b
+      go (yes h) k = absurd (re .once a b h lb e)
+      go (no h) (yes k) = absurd (re .once b a k la (sym e))
+      go (no h) (no k) = omega arith
+
+  served-first : ClashesInOrder Clash d fs o → KeepsClashes Clash d fs o
+  served-first h k m lt l c = go (decLt (place o k) (place o m))
+    where
+      go : Dec (place o k < place o m) → place o k < place o m
+      go (yes p) = p
+      go (no p) =
+          let ne = re .once k m lt l in
+          let (k′, m′, lt′, l′, ek, em) = h (place o m) (place o k) (omega arith) (re .inside k (omega arith)) (turn (getD fs (place o k) d) (getD fs (place o m) d) c) in
+          let a = one-place k′ m (omega arith) l ek in
+          let b = one-place m′ k l′ (omega arith) em in
+          absurd (omega arith)
+
+  stands-first : KeepsClashes Clash d fs o → ClashesInOrder Clash d fs o
+  stands-first h i j lt l c = go (re .all i (omega arith)) (re .all j l)
+    where
+      go : ((k : ℕ) × (k < length o) × (place o k ≡ i)) → ((m : ℕ) × (m < length o) × (place o m ≡ j)) → Before o i j
+      go (k, lk, ek) (m, lm, em) = at (decLt k m) (decLt m k)
+        where
+          at : Dec (k < m) → Dec (m < k) → Before o i j
+          at (yes p) q = (k, m, p, lm, ek, em)
+          at (no p) (yes q) = let r = h m k q lk (rw (ek, em) (turn (getD fs i d) (getD fs j d) c)) in absurd (omega arith)
+          at (no p) (no q) = let e : k ≡ m = omega arith in let x = ap (place o) e in absurd (omega arith)
+
+  -- from either side it is the same
+  pub in-order-exactly : ClashesInOrder Clash d fs o ↔ KeepsClashes Clash d fs o
+  in-order-exactly = (served-first, stands-first)
+
+-- ---- the theorem
 
 module _ {S F O : Type 0} (step : S → F → O × S) (Good : S → Type 0) (Clash : F → F → Type 0)
     (stays : (s : S) (f : F) → Good s → Good (step s f .1))
@@ -47,10 +97,4 @@ module _ {S F O : Type 0} (step : S → F → O × S) (Good : S → Type 0) (Cla
   -- any reordering, where no two clash
   pub any-order : ((f g : F) → Clash f g → Clash g f) → (fs : List F) (o : List ℕ) (s : S) → Good s → Reorders (length fs) o
       → NoClash Clash d fs → SameService step e s fs (pick d fs o) o
-  any-order turn fs o s good re none = keeping-order fs o s good re (λ k m h l c. go k m h l c (decLt (place o k) (place o m)))
-    where
-      go : (k m : ℕ) → k < m → m < length o → Clash (getD fs (place o k) d) (getD fs (place o m) d) → Dec (place o k < place o m) → place o k < place o m
-      go k m h l c (yes p) = p
-      go k m h l c (no p) =
-          let ne = re .once k m h l in
-          absurd (none (place o m) (place o k) (omega arith) (re .inside k (omega arith)) (turn (getD fs (place o k) d) (getD fs (place o m) d) c))
+  any-order turn fs o s good re none = keeping-order fs o s good re (none-to-keep Clash d turn fs o re none)

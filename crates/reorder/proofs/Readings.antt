@@ -7,7 +7,7 @@ use native.Mathlib.Omega.{arith}
 use lib.ListN.{length, getD, List·getD-map}
 use Rattle.reorder.specs.Reorder.{outcomes, final, place, pick, SameService}
 
-getD-pick : {A : Type 0} (e : A) (l : List A) (o : List ℕ) (k : ℕ) → k < length o → getD (pick e l o) k e ≡ getD l (place o k) e
+pub getD-pick : {A : Type 0} (e : A) (l : List A) (o : List ℕ) (k : ℕ) → k < length o → getD (pick e l o) k e ≡ getD l (place o k) e
 getD-pick e l [] k h = absurd (not-suc-le-zero h)
 getD-pick e l (i ∷ o) zero h = refl
 getD-pick e l (i ∷ o) (suc k) h = getD-pick e l o k (le-of-suc-le-suc h)

@@ -1,1 +1,2 @@
 pub mod Reorder
+pub mod Last

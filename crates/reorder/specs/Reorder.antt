@@ -39,6 +39,10 @@ pub record Reorders (n : ℕ) (o : List ℕ) : Type 0 where
   pub once : (k m : ℕ) → k < m → m < length o → place o k ≢ place o m
   pub all : (i : ℕ) → i < n → (k : ℕ) × (k < length o) × (place o k ≡ i)
 
+-- o has place i before place j
+abbrev pub Before : List ℕ → ℕ → ℕ → Type 0
+Before o i j = (k : ℕ) × (m : ℕ) × (k < m) × (m < length o) × (place o k ≡ i) × (place o m ≡ j)
+
 -- gs is served as fs is, in the order o: the k-th of gs has the outcome of the one in fs whose place stands k-th in o, and the same state is left
 module _ {S F O : Type 0} (step : S → F → O × S) (e : O) where
   pub record SameService (s : S) (fs gs : List F) (o : List ℕ) : Type 0 where
@@ -56,3 +60,7 @@ module _ {F : Type 0} (Clash : F → F → Type 0) (d : F) where
   -- of two that clash, the one that o serves first stands first in the list
   abbrev pub KeepsClashes : List F → List ℕ → Type 0
   KeepsClashes fs o = (k m : ℕ) → k < m → m < length o → Clash (getD fs (place o k) d) (getD fs (place o m) d) → place o k < place o m
+
+  -- the same, from the list's side: of two that clash, the one that stands first in the list is served first
+  abbrev pub ClashesInOrder : List F → List ℕ → Type 0
+  ClashesInOrder fs o = (i j : ℕ) → i < j → j < length fs → Clash (getD fs i d) (getD fs j d) → Before o i j

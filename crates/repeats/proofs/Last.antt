@@ -1,0 +1,129 @@
+-- Each cell ends with its last accepted write in the list, or with its old value if there was none (document 02, request 14): for frames one after the
+-- other, on any image, with any outputs and the switch turned or not, and so for calls. In another order that keeps that of the calls that clash, the
+-- last write of a cell is the same. Assumes nothing.
+use mathlib.Core.Path.{_≡_, refl, sym, _∙_}
+use mathlib.Core.Logic.{_⊎_, inl, inr}
+use mathlib.Core.List.{List, [], List·Memᴰ}
+use mathlib.Core.Bool.{true}
+use Prim.Native.Nat.{ℕ, _<_}
+use native.Mathlib.Omega.{arith}
+use lib.ListN.{length, getD}
+use Rattle.reorder.specs.Reorder.{final, place, pick, Reorders, KeepsClashes}
+use Rattle.reorder.specs.Last.{WroteAt, NoneWrote, LastWrote}
+use Rattle.reorder.proofs.Last.{none-or-last, none-wrote-keeps, last-wrote-holds, last-stays-last}
+use Rattle.image.specs.declared.cell.Cell.{Cell}
+use Rattle.image.specs.declared.version.Version.{Version}
+use Rattle.image.specs.Cell.{isCell}
+use Rattle.image.specs.Usable.{usable, address}
+use Rattle.rules.specs.declared.switch.Switch.{Switch}
+use Rattle.rules.specs.declared.switch.Switch.the-variants.{Unsealed}
+use Rattle.rules.specs.declared.verdict.Verdict.{Verdict}
+use Rattle.rules.specs.declared.verdict.Verdict.the-variants.{Refused, Accepted}
+use Rattle.command.specs.Reply.{writesOf}
+use Rattle.izk.specs.Heard.{Hearing, Lawful}
+use Rattle.izk.specs.Since.{Turn, inTurn, turned, left}
+use Rattle.izk.proofs.Changes.{Kept}
+use Rattle.order.specs.Serving.{Call, nothing, framesOf, step, Clash}
+use Rattle.order.proofs.Demand3.{keeping-order-serves}
+use Rattle.order.proofs.FrameCells.{accepted-cells}
+use Rattle.order.proofs.Repeats.{numberOf, number-at}
+use Rattle.repeats.specs.Written.{Wrote, noTurn, noAnswer, Unwritten, LastWrite, UnwrittenCall, LastCall}
+use Rattle.repeats.proofs.Written.{Holds, kept-same, decided, hit, miss}
+
+-- ---- what is kept stays what it was
+
+kept-on : (d : Cell) (m n p : List ℕ) → Kept d m n → Kept d n p → Kept d m p
+kept-on d m n p a b = record { bytes = b .bytes ∙ a .bytes; its-bit = λ j q e. b .its-bit j q e ∙ a .its-bit j q e }
+
+holds-on : (d : Cell) (f m n : List ℕ) → Holds d f m → Kept d m n → Holds d f n
+holds-on d f m n h k =
+    record {
+      filled = record { bytes = k .bytes ∙ h .filled .bytes; its-bit = λ j q e. k .its-bit j q e ∙ h .filled .its-bit j q e };
+      fits = h .fits;
+    }
+
+-- ---- whatever is asked, if each is a turn
+
+module _ {F O : Type 0} (ear : Switch → Hearing) (ok : (s : Switch) → Lawful (ear s)) (v : Version) (d : Cell) (cell : isCell d ≡ true)
+    (turn : F → Turn) (given : O → ℕ) (ask : List ℕ → F → O × List ℕ) (none : F) (silence : O)
+    (number : (m : List ℕ) (x : F) → inTurn ear v m (turn x) .number ≡ given (ask m x .0))
+    (image : (m : List ℕ) (x : F) → inTurn ear v m (turn x) .image ≡ ask m x .1) where
+  abbrev Did : F → O → Type 0
+  Did x a = Wrote d (turn x .frame) (given a)
+
+  abbrev Has : F → List ℕ → Type 0
+  Has x n = Holds d (turn x .frame) n
+
+  hits : (m : List ℕ) (x : F) → Did x (ask m x .0) → Has x (ask m x .1)
+  hits m x w = rw (image m x) at (hit ear ok v d cell m (turn x) (rw (number m x) w))
+
+  misses : (m : List ℕ) (x : F) → ¬ Did x (ask m x .0) → Kept d m (ask m x .1)
+  misses m x n = rw (image m x) at (miss ear ok v d cell m (turn x) (rw (number m x) n))
+
+  decides : (m : List ℕ) (x : F) → Dec (Did x (ask m x .0))
+  decides m x = rw (number m x) at (decided ear ok v d cell m (turn x))
+
+  keeps : (m : List ℕ) (xs : List F) → NoneWrote ask Did none silence m xs → Kept d m (final ask m xs)
+  keeps m xs = none-wrote-keeps ask Did none silence (Kept d) Has (λ m. kept-same d m m refl) (kept-on d) (λ x. holds-on d (turn x .frame)) hits misses xs m
+
+  holds : (m : List ℕ) (xs : List F) (k : ℕ) → LastWrote ask Did none silence m xs k → Has (getD xs k none) (final ask m xs)
+  holds m xs k = last-wrote-holds ask Did none silence (Kept d) Has (λ m. kept-same d m m refl) (kept-on d) (λ x. holds-on d (turn x .frame)) hits misses xs k m
+
+  either : (m : List ℕ) (xs : List F) → NoneWrote ask Did none silence m xs ⊎ ((k : ℕ) × LastWrote ask Did none silence m xs k)
+  either m xs = none-or-last ask Did none silence decides xs m
+
+-- ---- frames one after the other, with any outputs, the switch turned or not
+
+module _ (ear : Switch → Hearing) (ok : (s : Switch) → Lawful (ear s)) (v : Version) (d : Cell) (cell : isCell d ≡ true) (m : List ℕ) (xs : List Turn) where
+  -- what no turn wrote has its old value
+  pub unwritten-keeps : Unwritten ear v d m xs → Kept d m (left ear v m xs)
+  unfolding left
+  unwritten-keeps = keeps ear ok v d cell (λ x. x) (λ a. a .number) (turned ear v) noTurn noAnswer (λ m x. refl) (λ m x. refl) m xs
+
+  -- any other cell has what its last accepted write sent
+  pub last-write-holds : (k : ℕ) → LastWrite ear v d m xs k → Holds d (getD xs k noTurn .frame) (left ear v m xs)
+  unfolding left
+  last-write-holds = holds ear ok v d cell (λ x. x) (λ a. a .number) (turned ear v) noTurn noAnswer (λ m x. refl) (λ m x. refl) m xs
+
+  -- and one of the two is the case
+  pub unwritten-or-last : Unwritten ear v d m xs ⊎ ((k : ℕ) × LastWrite ear v d m xs k)
+  unwritten-or-last = either ear ok v d cell (λ x. x) (λ a. a .number) (turned ear v) noTurn noAnswer (λ m x. refl) (λ m x. refl) m xs
+
+-- ---- calls, with room for a reply and in one position of the switch
+
+abbrev turnOf : Call → Turn
+turnOf x = record { switch = Unsealed; frame = x .frame; out = x .out }
+
+module _ (ear : Hearing) (ok : Lawful ear) (v : Version) (d : Cell) where
+  module _ (cell : isCell d ≡ true) (m : List ℕ) (xs : List Call) where
+    pub unwritten-call-keeps : UnwrittenCall ear v d m xs → Kept d m (final (step ear v) m xs)
+    unwritten-call-keeps = keeps (λ s. ear) (λ s. ok) v d cell turnOf (λ a. a .0) (step ear v) nothing (0, []) (λ m x. refl) (λ m x. refl) m xs
+
+    pub last-call-holds : (k : ℕ) → LastCall ear v d m xs k → Holds d (getD xs k nothing .frame) (final (step ear v) m xs)
+    last-call-holds = holds (λ s. ear) (λ s. ok) v d cell turnOf (λ a. a .0) (step ear v) nothing (0, []) (λ m x. refl) (λ m x. refl) m xs
+
+    pub unwritten-or-last-call : UnwrittenCall ear v d m xs ⊎ ((k : ℕ) × LastCall ear v d m xs k)
+    unwritten-or-last-call = either (λ s. ear) (λ s. ok) v d cell turnOf (λ a. a .0) (step ear v) nothing (0, []) (λ m x. refl) (λ m x. refl) m xs
+
+  -- ---- in another order
+
+  module _ (xs ys : List Call) (o m : List ℕ) (u : usable v m ≡ true) (re : Reorders (length xs) o) (frames : framesOf ys ≡ pick [] (framesOf xs) o)
+      (order : KeepsClashes (Clash ear (address m)) nothing xs o) where
+    -- an accepted write has the cell among what it writes
+    writes-it : (i : ℕ) → i < length xs → WroteAt (step ear v) (λ x a. Wrote d (x .frame) (a .0)) nothing (0, []) m xs i
+        → List·Memᴰ d (writesOf (ear (address m) (getD xs i nothing .frame)))
+    writes-it i l w = by (ear (address m) f) refl (sym (number-at ear ok v (address m) xs m (u, refl) i l) ∙ w .done-is)
+      where
+        f : List ℕ
+        f = getD xs i nothing .frame
+
+        by : (r : Verdict) → ear (address m) f ≡ r → numberOf r ≡ 0 → List·Memᴰ d (writesOf (ear (address m) f))
+        by (Refused n) h z = let (low, high) = rw h at (ok .numbered (address m) f) in absurd (omega arith)
+        by (Accepted e t b) h z = rw (accepted-cells ear ok (address m) f h .1) (w .names)
+
+    -- the last write of a cell in the list is its last in the other order too
+    pub last-call-stays : (k : ℕ) → k < length o → LastCall ear v d m xs (place o k) → LastCall ear v d m ys k
+    last-call-stays =
+        last-stays-last (step ear v) (λ x. x .frame) (λ f a. Wrote d f (a .0)) nothing (0, []) (Clash ear (address m)) m xs ys o re
+        (keeping-order-serves ear ok v (address m) xs ys o m (u, refl) re frames order) frames order
+        (λ i j l n a b. inl (d, writes-it i l a, inr (writes-it j n b)))

@@ -1,0 +1,5 @@
+pub mod Ahead
+pub mod Written
+pub mod Last
+pub mod Numbers
+pub mod Worked

@@ -1,0 +1,119 @@
+-- A part sent twice, worked out: between the two sendings it is read, behind them it is read again by the same frame and its signature is asked; an error
+-- table is replaced by a shorter one, the same part of another table is written, and a third sending is refused. In two orders, into two kinds of outputs,
+-- the definition computes one image; the theorem's premises are computed on the list, and it is applied. Assumes nothing.
+use mathlib.Core.Path.{_≡_, refl}
+use mathlib.Core.List.{List, [], _∷_, _++_, map}
+use mathlib.Core.Bool.{true}
+use Prim.Native.Nat.{ℕ}
+use native.Mathlib.Omega.{arith}
+use lib.ListN.{replicate, length-replicate, getD}
+use Rattle.laws.specs.Bytes.{slice, lay, zeros, padded, sumOf, two, wordAt}
+use Rattle.laws.specs.Checks.{judged, within, every, all}
+use Rattle.laws.specs.Bits.{withBit}
+use Rattle.reorder.specs.Reorder.{outcomes, final, pick, SameService}
+use Rattle.reorder.proofs.Tests.{undoes, reorders-of}
+use Rattle.frame.specs.Digits.{isDigit, valueOf, charOf, charsOf, bytesOf, checksumOf}
+use Rattle.frame.specs.Apart.{lengthOk, endsOk, inner, bodyOf, contentsOf, sumOk, frameChecks}
+use Rattle.frame.specs.Built.{frameOf}
+use Rattle.image.specs.Version.{current}
+use Rattle.image.specs.Cell.{run, when, isTable, tableIndex, tableNamed, partNamed}
+use Rattle.image.specs.Words.{tableWord}
+use Rattle.image.specs.Usable.{markOk, addressOk, countOk, wordOk, usable}
+use Rattle.image.specs.Fresh.{fresh}
+use Rattle.image.proofs.FreshImage.{fresh-usable}
+use Rattle.storing.specs.Stored.{stored}
+use Rattle.rules.specs.declared.switch.Switch.the-variants.{Unsealed}
+use Rattle.rules.specs.Rules.{rowed, rowsNamed, degrees, rises, commands, ruleOf}
+use Rattle.rules.specs.Seal.{lets}
+use Rattle.rules.specs.Verdict.{tried, sought, recognised}
+use Rattle.izk.specs.Heard.{heard, answered}
+use Rattle.izk.specs.Block.{served}
+use Rattle.order.specs.Serving.{Call, call, nothing, framesOf, step}
+use Rattle.order.proofs.Tests.{disjoint, clear, apart, ordered, inOrder, keeps-of}
+use Rattle.order.proofs.Repeats.{repeats-serve}
+
+-- part 3 of a table, all of its bytes alike
+abbrev part3 : ℕ → ℕ → ℕ → Call
+part3 a t b = call (frameOf (a ∷ (59 ∷ (t ∷ (3 ∷ replicate 128 b)))))
+
+abbrev asked3 : Call
+asked3 = call (frameOf (1 ∷ (60 ∷ (12 ∷ (3 ∷ [])))))
+
+unfoldable pub calls : List Call
+calls =
+    part3 1 12 1
+    ∷ (call (frameOf (1 ∷ (62 ∷ (1 ∷ (2 ∷ (10 ∷ (0 ∷ (5 ∷ (20 ∷ (0 ∷ (6 ∷ [])))))))))))
+    ∷ (asked3
+    ∷ (part3 1 2 7
+    ∷ (part3 1 12 2
+    ∷ (call (frameOf (1 ∷ (62 ∷ (1 ∷ (1 ∷ (15 ∷ (0 ∷ (9 ∷ []))))))))
+    ∷ (call (frameOf (1 ∷ (61 ∷ (12 ∷ []))))
+    ∷ (part3 2 12 9
+    ∷ (asked3
+    ∷ (call (frameOf (1 ∷ (51 ∷ (255 ∷ []))))
+    ∷ [])))))))))
+
+-- an order that keeps that of the calls that clash, and the places at which it has each
+unfoldable pub other : List ℕ
+other = 7 ∷ (9 ∷ (1 ∷ (0 ∷ (5 ∷ (2 ∷ (3 ∷ (4 ∷ (8 ∷ (6 ∷ [])))))))))
+
+back : List ℕ
+back = 3 ∷ (2 ∷ (5 ∷ (6 ∷ (7 ∷ (4 ∷ (9 ∷ (0 ∷ (8 ∷ (1 ∷ [])))))))))
+
+undone : undoes back other ≡ true
+unfolding undoes other back every
+undone = refl
+
+redone : undoes other back ≡ true
+unfolding undoes other back every
+redone = refl
+
+keeps-theirs : inOrder (heard Unsealed) 1 calls other ≡ true
+unfolding inOrder ordered apart clear disjoint all run calls other heard recognised sought lets tried ruleOf commands when isTable tableIndex tableNamed partNamed
+    rowed rowsNamed degrees rises lengthOk endsOk inner bodyOf contentsOf sumOk frameChecks frameOf isDigit valueOf charOf charsOf bytesOf checksumOf judged
+    within every slice sumOf
+keeps-theirs = refl
+
+is-usable : usable current (fresh current 1) ≡ true
+is-usable = fresh-usable current 1 (λ e. absurd (let z : ⊥ = omega arith in z))
+
+-- the same frames in that order, into longer outputs that hold other characters
+abbrev refilled : Call → Call
+refilled x = record { frame = x .frame; out = replicate 300 42; room = rw (length-replicate {A = ℕ} 300 42) (omega arith) }
+
+unfoldable pub callsAgain : List Call
+callsAgain = map refilled (pick nothing calls other)
+
+same-frames : framesOf callsAgain ≡ pick [] (framesOf calls) other
+unfolding callsAgain calls other
+same-frames = refl
+
+pub same-service : SameService (step (heard Unsealed) current) (0, []) (fresh current 1) calls callsAgain other
+unfolding calls back fresh lay zeros
+same-service =
+    repeats-serve Unsealed current calls callsAgain other (fresh current 1) is-usable (reorders-of back other undone redone) same-frames
+    (keeps-of (heard Unsealed) 1 calls other keeps-theirs)
+
+-- ---- both orders, computed by the definition alone
+
+-- one part of table 2 is held and one of table 12, the tenth in the image; a part sent twice counts once
+unfoldable pub heldWords : List ℕ
+heldWords = zeros 2 ++ (0 ∷ (4 ∷ (zeros 14 ++ (0 ∷ (4 ∷ zeros 12)))))
+
+-- 128 times 7 is 3 times 256 and 128; 128 times 2 is 256; the short error table adds up to 25
+unfoldable pub signatures : List ℕ
+signatures = zeros 2 ++ (3 ∷ (128 ∷ (zeros 14 ++ (1 ∷ (0 ∷ (zeros 28 ++ (0 ∷ (25 ∷ zeros 14))))))))
+
+-- the whole image: the mask that was written, the words, the short error table with zeros behind its row, both parts, the signatures, and 0 elsewhere
+unfoldable pub expected : List ℕ
+expected =
+    (73 ∷ (90 ∷ (75 ∷ (0 ∷ (2 ∷ (1 ∷ (255 ∷ zeros 10)))))))
+    ++ (heldWords ++ (zeros 664 ++ ((1 ∷ (15 ∷ (0 ∷ (9 ∷ zeros 508)))) ++ (zeros 1664 ++ (replicate 128 7 ++ (zeros 11136 ++ (replicate 128 2
+    ++ (zeros 9472 ++ signatures))))))))
+
+pub both-orders : (final (step (heard Unsealed) current) (fresh current 1) calls ≡ expected)
+    × (final (step (heard Unsealed) current) (fresh current 1) callsAgain ≡ expected)
+unfolding calls callsAgain other heldWords signatures expected served answered heard recognised sought lets tried stored ruleOf commands markOk addressOk
+    countOk tableWord wordOk usable fresh when isTable tableIndex tableNamed partNamed rowed rowsNamed degrees rises lengthOk endsOk inner bodyOf contentsOf
+    sumOk frameChecks frameOf isDigit valueOf charOf charsOf bytesOf checksumOf withBit judged within every all slice lay zeros padded sumOf two wordAt
+both-orders = (refl, refl)
