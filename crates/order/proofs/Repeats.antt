@@ -3,14 +3,14 @@
 use mathlib.Core.Path.{_≡_, refl, sym, ap, ap₂, _∙_}
 use mathlib.Core.Logic.{_≢_, _⊎_, inl, inr}
 use mathlib.Core.List.{List, [], _∷_, List·Memᴰ·not-nil}
-use mathlib.Core.Bool.{true}
+use mathlib.Core.Bool.{Bool, true, false}
 use Prim.Native.Nat.{ℕ, zero, suc, _<_}
 use native.Mathlib.Nat.{not-suc-le-zero, le-of-suc-le-suc}
 use native.Mathlib.Omega.{arith}
 use lib.ListN.{length, getD, take}
 use Rattle.reorder.specs.Reorder.{outcomes, final, place, pick, Reorders, KeepsClashes, ClashesInOrder, SameService}
-use Rattle.reorder.proofs.Order.{in-order-exactly}
-use Rattle.reorder.proofs.Readings.{each-outcome}
+use Rattle.reorder.proofs.Order.{in-order-exactly, still-any-order}
+use Rattle.reorder.proofs.Readings.{each-outcome, alike-service}
 use Rattle.frame.specs.Apart.{contentsOf}
 use Rattle.image.specs.declared.version.Version.{Version}
 use Rattle.image.specs.Version.{current}
@@ -18,8 +18,10 @@ use Rattle.image.specs.Usable.{usable, address}
 use Rattle.rules.specs.declared.switch.Switch.{Switch}
 use Rattle.rules.specs.declared.verdict.Verdict.{Verdict}
 use Rattle.rules.specs.declared.verdict.Verdict.the-variants.{Refused, Accepted}
+use Rattle.command.specs.Reply.{BuffersAfter, replyIn}
 use Rattle.izk.specs.Heard.{heard, Hearing, Lawful}
 use Rattle.izk.proofs.Hearing.{heard-lawful}
+use Rattle.izk.proofs.Serving.{unusable-is-1}
 use Rattle.order.specs.Serving.{Call, nothing, framesOf, step, Good, Meets, Clash, Ran, no-call, a-call}
 use Rattle.order.proofs.Demand3.{did, step-is, stays, clash-turn, keeping-order-serves}
 
@@ -60,7 +62,38 @@ module _ (ear : Hearing) (ok : Lawful ear) (v : Version) (a : ℕ) where
   number-at (x ∷ xs) m g zero l = number-is m x g
   number-at (x ∷ xs) m g (suc i) l = number-at xs (step ear v m x .1) (stays ear ok v a m x g) i (le-of-suc-le-suc l)
 
-module _ (ear : Hearing) (ok : Lawful ear) (v : Version) (xs ys : List Call) (o m : List ℕ) (u : usable v m ≡ true) (re : Reorders (length xs) o)
+-- ---- an image that is not usable
+
+module _ (ear : Hearing) (v : Version) where
+  pub unusable-step : (m : List ℕ) (x : Call) → usable v m ≡ false → step ear v m x ≡ ((1, []), m)
+  unusable-step m x u = ap (λ (b : BuffersAfter). ((b .number, replyIn b), b .image)) (unusable-is-1 ear v (x .frame) m (x .out) u)
+
+  pub unusable-number : (xs : List Call) (m : List ℕ) → usable v m ≡ false → (i : ℕ) → i < length xs → getD (outcomes (step ear v) m xs) i (0, []) .0 ≡ 1
+  unusable-number [] m u i l = absurd (not-suc-le-zero l)
+  unusable-number (x ∷ xs) m u zero l = ap (λ (r : (ℕ × List ℕ) × List ℕ). r .0 .0) (unusable-step m x u)
+  unusable-number (x ∷ xs) m u (suc i) l =
+      unusable-number xs (step ear v m x .1) (ap (λ (r : (ℕ × List ℕ) × List ℕ). usable v (r .1)) (unusable-step m x u) ∙ u) i (le-of-suc-le-suc l)
+
+  module _ (xs ys : List Call) (o m : List ℕ) (re : Reorders (length xs) o) (frames : framesOf ys ≡ pick [] (framesOf xs) o) where
+    -- every call is refused 1 there and changes nothing, so all orders are alike
+    unusable-any-order : usable v m ≡ false → SameService (step ear v) (0, []) m xs ys o
+    unusable-any-order u =
+        alike-service (step ear v) (λ m. usable v m ≡ false) (λ m x b. rw (still m x b) b) (λ x. x .frame) (λ m x y b e. unusable-step m x b ∙ sym (unusable-step m y b))
+        nothing (0, []) m xs ys o u frames (still-any-order (step ear v) (λ m. usable v m ≡ false) still nothing (0, []) xs o m u re)
+      where
+        still : (m : List ℕ) (x : Call) → usable v m ≡ false → step ear v m x .1 ≡ m
+        still m x b = ap (λ (r : (ℕ × List ℕ) × List ℕ). r .1) (unusable-step m x b)
+
+    on-usable : (usable v m ≡ true → SameService (step ear v) (0, []) m xs ys o) → SameService (step ear v) (0, []) m xs ys o
+    on-usable f = go (usable v m) refl
+      where
+        go : (t : Bool) → usable v m ≡ t → SameService (step ear v) (0, []) m xs ys o
+        go true u = f u
+        go false u = unusable-any-order u
+
+-- ---- where refused calls stand
+
+module _ (ear : Hearing) (ok : Lawful ear) (v : Version) (xs ys : List Call) (o m : List ℕ) (re : Reorders (length xs) o)
     (frames : framesOf ys ≡ pick [] (framesOf xs) o) where
   -- the number that the call at a place of the list is given
   abbrev given : ℕ → ℕ
@@ -69,23 +102,23 @@ module _ (ear : Hearing) (ok : Lawful ear) (v : Version) (xs ys : List Call) (o 
   -- where those that were done keep their order, refused ones may stand anywhere
   pub refused-anywhere : ((k n : ℕ) → k < n → n < length o → given (place o k) ≡ 0 → given (place o n) ≡ 0 → place o k < place o n)
       → SameService (step ear v) (0, []) m xs ys o
-  refused-anywhere order = keeping-order-serves ear ok v (address m) xs ys o m (u, refl) re frames keeps
+  refused-anywhere order = on-usable ear v xs ys o m re frames (λ u. keeping-order-serves ear ok v (address m) xs ys o m (u, refl) re frames (keeps u))
     where
-      heard-at : (k : ℕ) → k < length o → given (place o k) ≡ numberOf (ear (address m) (getD xs (place o k) nothing .frame))
-      heard-at k l = number-at ear ok v (address m) xs m (u, refl) (place o k) (re .inside k l)
-
-      keeps : KeepsClashes (Clash ear (address m)) nothing xs o
-      keeps k n lt l c =
+      keeps : usable v m ≡ true → KeepsClashes (Clash ear (address m)) nothing xs o
+      keeps u k n lt l c =
           let z = clash-done ear ok v (address m) (getD xs (place o k) nothing) (getD xs (place o n) nothing) c in
-          order k n lt l (heard-at k (omega arith) ∙ z .0) (heard-at n l ∙ z .1)
+          order k n lt l (at u k (omega arith) ∙ z .0) (at u n l ∙ z .1)
+        where
+          at : usable v m ≡ true → (k : ℕ) → k < length o → given (place o k) ≡ numberOf (ear (address m) (getD xs (place o k) nothing .frame))
+          at u k l = number-at ear ok v (address m) xs m (u, refl) (place o k) (re .inside k l)
 
--- ---- the block, in either position of its switch, one for both lists
+-- ---- the block, in either position of its switch, one for both lists, on any image
 
-module _ (s : Switch) (v : Version) (xs ys : List Call) (o m : List ℕ) (u : usable v m ≡ true) (re : Reorders (length xs) o)
-    (frames : framesOf ys ≡ pick [] (framesOf xs) o) where
+module _ (s : Switch) (v : Version) (xs ys : List Call) (o m : List ℕ) (re : Reorders (length xs) o) (frames : framesOf ys ≡ pick [] (framesOf xs) o) where
   -- a reordering in which any two calls that clash keep their order gives each the same number and reply, and leaves the same image
   pub repeats-serve : KeepsClashes (Clash (heard s) (address m)) nothing xs o → SameService (step (heard s) v) (0, []) m xs ys o
-  repeats-serve = keeping-order-serves (heard s) (heard-lawful s) v (address m) xs ys o m (u, refl) re frames
+  repeats-serve keeps =
+      on-usable (heard s) v xs ys o m re frames (λ u. keeping-order-serves (heard s) (heard-lawful s) v (address m) xs ys o m (u, refl) re frames keeps)
 
   -- by place
   pub repeats-answer : KeepsClashes (Clash (heard s) (address m)) nothing xs o → (k : ℕ) → k < length o
@@ -110,11 +143,11 @@ module _ (s : Switch) where
       rw (← (p .image-is)) (ap₂ _∷_ e (k .0), k .1)
 
   -- so two rows of calls with the same frames, of which those that clash keep their order, return the same by place, and leave the same image
-  pub runs-alike : {m m′ m″ : List ℕ} {xs ys : List Call} {rs ss : List (ℕ × List ℕ)} (o : List ℕ) → usable current m ≡ true → Reorders (length xs) o
+  pub runs-alike : {m m′ m″ : List ℕ} {xs ys : List Call} {rs ss : List (ℕ × List ℕ)} (o : List ℕ) → Reorders (length xs) o
       → framesOf ys ≡ pick [] (framesOf xs) o → KeepsClashes (Clash (heard s) (address m)) nothing xs o
       → Ran s m xs rs m′ → Ran s m ys ss m″ → (ss ≡ pick (0, []) rs o) × (m″ ≡ m′)
-  runs-alike {m} {xs} {ys} o u re frames keeps a b =
+  runs-alike {m} {xs} {ys} o re frames keeps a b =
       let p = ran-is a in
       let q = ran-is b in
-      let h = repeats-serve s current xs ys o m u re frames keeps in
+      let h = repeats-serve s current xs ys o m re frames keeps in
       (q .0 ∙ h .answers ∙ ap (λ (l : List (ℕ × List ℕ)). pick (0, []) l o) (sym (p .0)), q .1 ∙ h .left ∙ sym (p .1))

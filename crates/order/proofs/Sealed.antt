@@ -1,5 +1,5 @@
 -- Sealed, no frame writes a cell, so no two clash; and no frame changes the image, so any frames can be served in any order. Assumes nothing.
-use mathlib.Core.Path.{_≡_, refl, sym, ap, _∙_}
+use mathlib.Core.Path.{_≡_, refl, sym, _∙_}
 use mathlib.Core.Logic.{inl, inr}
 use mathlib.Core.List.{List, [], _∷_, List·Memᴰ·not-nil}
 use mathlib.Core.Bool.{Bool, true, false}
@@ -8,8 +8,8 @@ use native.Mathlib.Omega.{arith}
 use lib.ListN.{length}
 use Rattle.laws.specs.Checks.{check}
 use Rattle.laws.proofs.Tests.{never}
-use Rattle.reorder.specs.Reorder.{Commutes, pick, Reorders, SameService}
-use Rattle.reorder.proofs.Order.{any-order}
+use Rattle.reorder.specs.Reorder.{pick, Reorders, SameService}
+use Rattle.reorder.proofs.Order.{still-any-order}
 use Rattle.reorder.proofs.Readings.{alike-service}
 use Rattle.frame.specs.Apart.{contentsOf, frameChecks}
 use Rattle.image.specs.declared.version.Version.{Version}
@@ -22,13 +22,13 @@ use Rattle.rules.specs.Rules.{byte}
 use Rattle.rules.specs.Seal.{isWrite}
 use Rattle.rules.proofs.Following.{accepted-past}
 use Rattle.rules.proofs.Sealing.{write-refused}
-use Rattle.command.specs.Reply.{BuffersAfter, replyIn, readsOf, writesOf}
+use Rattle.command.specs.Reply.{readsOf, writesOf}
 use Rattle.izk.specs.Heard.{heard}
 use Rattle.izk.proofs.Hearing.{heard-lawful}
-use Rattle.izk.proofs.Serving.{unusable-is-1}
 use Rattle.izk.proofs.Sealed.{heard-let, sealed-leaves-image}
 use Rattle.order.specs.Serving.{Call, nothing, framesOf, step, Meets, Clash}
 use Rattle.order.proofs.Demand3.{by-frame}
+use Rattle.order.proofs.Repeats.{unusable-step}
 
 -- ---- cells
 
@@ -69,28 +69,17 @@ module _ (v : Version) where
   still : (m : List ℕ) (x : Call) → does m x .1 ≡ m
   still m x = sealed-leaves-image v (x .frame) m (x .out)
 
-  commute : (m : List ℕ) (x y : Call) → Commutes does m x y
-  commute m x y =
-      record {
-        first = ap (λ (n : List ℕ). does n x .0) (still m y);
-        second = ap (λ (n : List ℕ). does n y .0) (still m x);
-        state = still (does m x .1) y ∙ still m x ∙ sym (still (does m y .1) x ∙ still m y);
-      }
-
   -- by its frame, also on an image that is not usable
   alike : (m : List ℕ) (x y : Call) → x .frame ≡ y .frame → does m x ≡ does m y
   alike m x y e = go (usable v m) refl
     where
-      refused : (z : Call) → usable v m ≡ false → does m z ≡ ((1, []), m)
-      refused z u = ap (λ (b : BuffersAfter). ((b .number, replyIn b), b .image)) (unusable-is-1 (heard Sealed) v (z .frame) m (z .out) u)
-
       go : (t : Bool) → usable v m ≡ t → does m x ≡ does m y
       go true u = by-frame (heard Sealed) (heard-lawful Sealed) v (address m) m x y (u, refl) e
-      go false u = refused x u ∙ sym (refused y u)
+      go false u = unusable-step (heard Sealed) v m x u ∙ sym (unusable-step (heard Sealed) v m y u)
 
   -- any frames, on any image, usable or not: in any order each has the number and the reply that it has in the list, and the image is the list's
   pub sealed-any-order : (xs ys : List Call) (o m : List ℕ) → Reorders (length xs) o → framesOf ys ≡ pick [] (framesOf xs) o
       → SameService (step (heard Sealed) v) (0, []) m xs ys o
   sealed-any-order xs ys o m re frames =
       alike-service does (λ m. Unit {0}) (λ m x g. tt) (λ x. x .frame) (λ m x y g e. alike m x y e) nothing (0, []) m xs ys o tt frames
-      (any-order does (λ m. Unit {0}) (λ x y. ⊥) (λ m x g. tt) (λ m x y g n. commute m x y) nothing (0, []) (λ x y c. c) xs o m tt re (λ i j l k c. c))
+      (still-any-order does (λ m. Unit {0}) (λ m x g. still m x) nothing (0, []) xs o m tt re)

@@ -1,5 +1,5 @@
 -- When the order of serving does not show, for any step. `keeping-order` is the theorem, `any-order` its case without a clash. Assumes nothing.
-use mathlib.Core.Path.{_≡_, sym, ap, subst}
+use mathlib.Core.Path.{_≡_, sym, ap, subst, _∙_}
 use mathlib.Core.Logic.{_↔_, inl, inr}
 use mathlib.Core.List.{List, List·Memᴰ}
 use Prim.Native.Nat.{ℕ, _+_, _≤_, _<_}
@@ -98,3 +98,21 @@ module _ {S F O : Type 0} (step : S → F → O × S) (Good : S → Type 0) (Cla
   pub any-order : ((f g : F) → Clash f g → Clash g f) → (fs : List F) (o : List ℕ) (s : S) → Good s → Reorders (length fs) o
       → NoClash Clash d fs → SameService step e s fs (pick d fs o) o
   any-order turn fs o s good re none = keeping-order fs o s good re (none-to-keep Clash d turn fs o re none)
+
+-- ---- a step that leaves its state: no two clash
+
+module _ {S F O : Type 0} (step : S → F → O × S) (Good : S → Type 0) (still : (s : S) (f : F) → Good s → step s f .1 ≡ s) (d : F) (e : O) where
+  stays : (s : S) (f : F) → Good s → Good (step s f .1)
+  stays s f good = subst Good (sym (still s f good)) good
+
+  commute : (s : S) (f g : F) → Good s → Commutes step s f g
+  commute s f g good =
+      record {
+        first = ap (λ (t : S). step t f .0) (still s g good);
+        second = ap (λ (t : S). step t g .0) (still s f good);
+        state = still (step s f .1) g (stays s f good) ∙ still s f good ∙ sym (still (step s g .1) f (stays s g good) ∙ still s g good);
+      }
+
+  pub still-any-order : (fs : List F) (o : List ℕ) (s : S) → Good s → Reorders (length fs) o → SameService step e s fs (pick d fs o) o
+  still-any-order fs o s good re =
+      any-order step Good (λ f g. ⊥) stays (λ s f g good n. commute s f g good) d e (λ f g c. c) fs o s good re (λ i j l k c. c)

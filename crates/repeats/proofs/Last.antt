@@ -1,14 +1,14 @@
 -- Each cell ends with its last accepted write in the list, or with its old value if there was none (document 02, request 14): for frames one after the
 -- other, on any image, with any outputs and the switch turned or not, and so for calls. In another order that keeps that of the calls that clash, the
 -- last write of a cell is the same. Assumes nothing.
-use mathlib.Core.Path.{_≡_, refl, sym, _∙_}
-use mathlib.Core.Logic.{_⊎_, inl, inr}
-use mathlib.Core.List.{List, [], List·Memᴰ}
-use mathlib.Core.Bool.{true}
+use mathlib.Core.Path.{_≡_, refl, sym, ap, _∙_}
+use mathlib.Core.Logic.{_⊎_, inl, inr, _↔_}
+use mathlib.Core.List.{List, [], List·Memᴰ, List·Memᴰ·not-nil}
+use mathlib.Core.Bool.{Bool, true, false}
 use Prim.Native.Nat.{ℕ, _<_}
 use native.Mathlib.Omega.{arith}
 use lib.ListN.{length, getD}
-use Rattle.reorder.specs.Reorder.{final, place, pick, Reorders, KeepsClashes}
+use Rattle.reorder.specs.Reorder.{outcomes, final, place, pick, Reorders, KeepsClashes}
 use Rattle.reorder.specs.Last.{WroteAt, NoneWrote, LastWrote}
 use Rattle.reorder.proofs.Last.{none-or-last, none-wrote-keeps, last-wrote-holds, last-stays-last}
 use Rattle.image.specs.declared.cell.Cell.{Cell}
@@ -26,7 +26,7 @@ use Rattle.izk.proofs.Changes.{Kept}
 use Rattle.order.specs.Serving.{Call, nothing, framesOf, step, Clash}
 use Rattle.order.proofs.Demand3.{keeping-order-serves}
 use Rattle.order.proofs.FrameCells.{accepted-cells}
-use Rattle.order.proofs.Repeats.{numberOf, number-at}
+use Rattle.order.proofs.Repeats.{numberOf, number-at, unusable-number}
 use Rattle.repeats.specs.Written.{Wrote, noTurn, noAnswer, Unwritten, LastWrite, UnwrittenCall, LastCall}
 use Rattle.repeats.proofs.Written.{Holds, kept-same, decided, hit, miss}
 
@@ -105,25 +105,47 @@ module _ (ear : Hearing) (ok : Lawful ear) (v : Version) (d : Cell) where
     pub unwritten-or-last-call : UnwrittenCall ear v d m xs ⊎ ((k : ℕ) × LastCall ear v d m xs k)
     unwritten-or-last-call = either (λ s. ear) (λ s. ok) v d cell turnOf (λ a. a .0) (step ear v) nothing (0, []) (λ m x. refl) (λ m x. refl) m xs
 
+  -- ---- which is the last, by what is heard
+
+  module _ (m : List ℕ) (u : usable v m ≡ true) (xs : List Call) where
+    abbrev At : ℕ → Type 0
+    At = WroteAt (step ear v) (λ x a. Wrote d (x .frame) (a .0)) nothing (0, []) m xs
+
+    abbrev frameAt : ℕ → List ℕ
+    frameAt i = getD xs i nothing .frame
+
+    module _ (i : ℕ) (l : i < length xs) where
+      writes-it : At i → List·Memᴰ d (writesOf (ear (address m) (frameAt i)))
+      writes-it w = by (ear (address m) (frameAt i)) refl (sym (number-at ear ok v (address m) xs m (u, refl) i l) ∙ w .done-is)
+        where
+          by : (r : Verdict) → ear (address m) (frameAt i) ≡ r → numberOf r ≡ 0 → List·Memᴰ d (writesOf (ear (address m) (frameAt i)))
+          by (Refused n) h z = let (low, high) = rw h at (ok .numbered (address m) (frameAt i)) in absurd (omega arith)
+          by (Accepted e t b) h z = rw (accepted-cells ear ok (address m) (frameAt i) h .1) (w .names)
+
+      wrote-it : List·Memᴰ d (writesOf (ear (address m) (frameAt i))) → At i
+      wrote-it w = by (ear (address m) (frameAt i)) refl (number-at ear ok v (address m) xs m (u, refl) i l)
+        where
+          by : (r : Verdict) → ear (address m) (frameAt i) ≡ r → getD (outcomes (step ear v) m xs) i (0, []) .0 ≡ numberOf (ear (address m) (frameAt i)) → At i
+          by (Refused n) h z = absurd (List·Memᴰ·not-nil (rw h at w))
+          by (Accepted e t b) h z =
+              record { done-is = z ∙ ap numberOf h; names = rw (accepted-cells ear ok (address m) (frameAt i) h .1) at w }
+
+      -- a call of a list is an accepted write of the cell exactly if what is heard of its frame writes it: before any is served it can be told which
+      pub wrote-exactly : At i ↔ List·Memᴰ d (writesOf (ear (address m) (frameAt i)))
+      wrote-exactly = (writes-it, wrote-it)
+
   -- ---- in another order
 
-  module _ (xs ys : List Call) (o m : List ℕ) (u : usable v m ≡ true) (re : Reorders (length xs) o) (frames : framesOf ys ≡ pick [] (framesOf xs) o)
+  module _ (xs ys : List Call) (o m : List ℕ) (re : Reorders (length xs) o) (frames : framesOf ys ≡ pick [] (framesOf xs) o)
       (order : KeepsClashes (Clash ear (address m)) nothing xs o) where
-    -- an accepted write has the cell among what it writes
-    writes-it : (i : ℕ) → i < length xs → WroteAt (step ear v) (λ x a. Wrote d (x .frame) (a .0)) nothing (0, []) m xs i
-        → List·Memᴰ d (writesOf (ear (address m) (getD xs i nothing .frame)))
-    writes-it i l w = by (ear (address m) f) refl (sym (number-at ear ok v (address m) xs m (u, refl) i l) ∙ w .done-is)
-      where
-        f : List ℕ
-        f = getD xs i nothing .frame
-
-        by : (r : Verdict) → ear (address m) f ≡ r → numberOf r ≡ 0 → List·Memᴰ d (writesOf (ear (address m) f))
-        by (Refused n) h z = let (low, high) = rw h at (ok .numbered (address m) f) in absurd (omega arith)
-        by (Accepted e t b) h z = rw (accepted-cells ear ok (address m) f h .1) (w .names)
-
     -- the last write of a cell in the list is its last in the other order too
     pub last-call-stays : (k : ℕ) → k < length o → LastCall ear v d m xs (place o k) → LastCall ear v d m ys k
-    last-call-stays =
-        last-stays-last (step ear v) (λ x. x .frame) (λ f a. Wrote d f (a .0)) nothing (0, []) (Clash ear (address m)) m xs ys o re
-        (keeping-order-serves ear ok v (address m) xs ys o m (u, refl) re frames order) frames order
-        (λ i j l n a b. inl (d, writes-it i l a, inr (writes-it j n b)))
+    last-call-stays k l h = go (usable v m) refl
+      where
+        go : (t : Bool) → usable v m ≡ t → LastCall ear v d m ys k
+        go true u =
+            last-stays-last (step ear v) (λ x. x .frame) (λ f a. Wrote d f (a .0)) nothing (0, []) (Clash ear (address m)) m xs ys o re
+            (keeping-order-serves ear ok v (address m) xs ys o m (u, refl) re frames order) frames order
+            (λ i j l n a b. inl (d, writes-it m u xs i l a, inr (writes-it m u xs j n b))) k l h
+        -- nothing is accepted there
+        go false u = let z : _≡_ {A = ℕ} 1 0 = sym (unusable-number ear v xs m u (place o k) (h .inside)) ∙ h .wrote .done-is in absurd (omega arith)

@@ -2,19 +2,24 @@
 -- table is replaced by a shorter one, the same part of another table is written, and a third sending is refused. In two orders, into two kinds of outputs,
 -- the definition computes one image; the theorem's premises are computed on the list, and it is applied. Assumes nothing.
 use mathlib.Core.Path.{_≡_, refl}
-use mathlib.Core.List.{List, [], _∷_, _++_, map}
-use mathlib.Core.Bool.{true}
-use Prim.Native.Nat.{ℕ}
+use mathlib.Core.Logic.{⊎-elim}
+use mathlib.Core.List.{List, [], _∷_, _++_, map, List·Memᴰ, List·Memᴰ·head}
+use mathlib.Core.Bool.{true, _||_}
+use Prim.Native.Nat.{ℕ, _<_}
 use native.Mathlib.Omega.{arith}
-use lib.ListN.{replicate, length-replicate, getD}
+use lib.ListN.{length, getD, replicate, length-replicate}
+use lib.Dec.{leb, lit<}
+use borrow.Author.Tests.{leb-true}
 use Rattle.laws.specs.Bytes.{slice, lay, zeros, padded, sumOf, two, wordAt}
 use Rattle.laws.specs.Checks.{judged, within, every, all}
 use Rattle.laws.specs.Bits.{withBit}
+use Rattle.laws.proofs.Tests.{or-either, every-at}
 use Rattle.reorder.specs.Reorder.{outcomes, final, pick, SameService}
 use Rattle.reorder.proofs.Tests.{undoes, reorders-of}
 use Rattle.frame.specs.Digits.{isDigit, valueOf, charOf, charsOf, bytesOf, checksumOf}
 use Rattle.frame.specs.Apart.{lengthOk, endsOk, inner, bodyOf, contentsOf, sumOk, frameChecks}
 use Rattle.frame.specs.Built.{frameOf}
+use Rattle.image.specs.declared.cell.Cell.the-variants.{Part}
 use Rattle.image.specs.Version.{current}
 use Rattle.image.specs.Cell.{run, when, isTable, tableIndex, tableNamed, partNamed}
 use Rattle.image.specs.Words.{tableWord}
@@ -26,11 +31,16 @@ use Rattle.rules.specs.declared.switch.Switch.the-variants.{Unsealed}
 use Rattle.rules.specs.Rules.{rowed, rowsNamed, degrees, rises, commands, ruleOf}
 use Rattle.rules.specs.Seal.{lets}
 use Rattle.rules.specs.Verdict.{tried, sought, recognised}
+use Rattle.command.specs.Reply.{writesOf}
 use Rattle.izk.specs.Heard.{heard, answered}
 use Rattle.izk.specs.Block.{served}
+use Rattle.izk.proofs.Hearing.{heard-lawful}
 use Rattle.order.specs.Serving.{Call, call, nothing, framesOf, step}
-use Rattle.order.proofs.Tests.{disjoint, clear, apart, ordered, inOrder, keeps-of}
+use Rattle.order.proofs.Tests.{disjoint, no-shared, clear, apart, ordered, inOrder, keeps-of}
 use Rattle.order.proofs.Repeats.{repeats-serve}
+use Rattle.repeats.specs.Written.{LastCall}
+use Rattle.repeats.proofs.Written.{Holds}
+use Rattle.repeats.proofs.Last.{last-call-holds, wrote-exactly}
 
 -- part 3 of a table, all of its bytes alike
 abbrev part3 : ℕ → ℕ → ℕ → Call
@@ -91,7 +101,7 @@ same-frames = refl
 pub same-service : SameService (step (heard Unsealed) current) (0, []) (fresh current 1) calls callsAgain other
 unfolding calls back fresh lay zeros
 same-service =
-    repeats-serve Unsealed current calls callsAgain other (fresh current 1) is-usable (reorders-of back other undone redone) same-frames
+    repeats-serve Unsealed current calls callsAgain other (fresh current 1) (reorders-of back other undone redone) same-frames
     (keeps-of (heard Unsealed) 1 calls other keeps-theirs)
 
 -- ---- both orders, computed by the definition alone
@@ -117,3 +127,68 @@ unfolding calls callsAgain other heldWords signatures expected served answered h
     countOk tableWord wordOk usable fresh when isTable tableIndex tableNamed partNamed rowed rowsNamed degrees rises lengthOk endsOk inner bodyOf contentsOf
     sumOk frameChecks frameOf isDigit valueOf charOf charsOf bytesOf checksumOf withBit judged within every all slice lay zeros padded sumOf two wordAt
 both-orders = (refl, refl)
+
+-- what each is answered as the list stands: the part that was sent first, and behind the second sending, to the same frame, that one
+unfoldable pub answers : List (ℕ × List ℕ)
+answers =
+    (0, frameOf (1 ∷ (59 ∷ (12 ∷ (3 ∷ [])))))
+    ∷ ((0, frameOf (1 ∷ (62 ∷ (1 ∷ []))))
+    ∷ ((0, frameOf (1 ∷ (60 ∷ (12 ∷ (3 ∷ replicate 128 1)))))
+    ∷ ((0, frameOf (1 ∷ (59 ∷ (2 ∷ (3 ∷ [])))))
+    ∷ ((0, frameOf (1 ∷ (59 ∷ (12 ∷ (3 ∷ [])))))
+    ∷ ((0, frameOf (1 ∷ (62 ∷ (1 ∷ []))))
+    ∷ ((0, frameOf (1 ∷ (61 ∷ (12 ∷ (1 ∷ (0 ∷ []))))))
+    ∷ ((7, [])
+    ∷ ((0, frameOf (1 ∷ (60 ∷ (12 ∷ (3 ∷ replicate 128 2)))))
+    ∷ ((0, frameOf (1 ∷ (51 ∷ (255 ∷ []))))
+    ∷ [])))))))))
+
+pub answered-so : outcomes (step (heard Unsealed) current) (fresh current 1) calls ≡ answers
+unfolding calls answers served answered heard recognised sought lets tried stored ruleOf commands markOk addressOk countOk tableWord wordOk usable fresh when
+    isTable tableIndex tableNamed partNamed rowed rowsNamed degrees rises lengthOk endsOk inner bodyOf contentsOf sumOk frameChecks frameOf isDigit valueOf
+    charOf charsOf bytesOf checksumOf withBit judged within every all slice lay zeros padded sumOf two wordAt
+answered-so = refl
+
+-- ---- the last sending
+
+-- of the calls behind the second sending none writes the part
+none-behind : every (λ n. leb n 4 || disjoint (Part 9 2 ∷ []) (writesOf (heard Unsealed 1 (getD calls n nothing .frame)))) 10 ≡ true
+unfolding disjoint all run calls heard recognised sought lets tried ruleOf commands when isTable tableIndex tableNamed partNamed rowed rowsNamed degrees rises
+    lengthOk endsOk inner bodyOf contentsOf sumOk frameChecks frameOf isDigit valueOf charOf charsOf bytesOf checksumOf judged within every slice sumOf
+none-behind = refl
+
+second-writes : writesOf (heard Unsealed 1 (getD calls 4 nothing .frame)) ≡ Part 9 2 ∷ []
+unfolding all calls heard recognised sought lets tried ruleOf commands when isTable tableIndex partNamed lengthOk endsOk inner bodyOf contentsOf sumOk frameChecks
+    frameOf isDigit valueOf charOf charsOf bytesOf checksumOf judged within every slice sumOf
+second-writes = refl
+
+-- so the second is the last accepted write of part 3 of table 12, the refused one behind it not counted
+pub second-is-last : LastCall (heard Unsealed) current (Part 9 2) (fresh current 1) calls 4
+unfolding calls fresh lay zeros
+second-is-last =
+    record {
+      inside = lit< tt;
+      wrote =
+          wrote-exactly (heard Unsealed) (heard-lawful Unsealed) current (Part 9 2) (fresh current 1) is-usable calls 4 (lit< tt) .1
+          (rw second-writes (List·Memᴰ·head refl));
+      none-later = λ n l i w.
+          later n l i (wrote-exactly (heard Unsealed) (heard-lawful Unsealed) current (Part 9 2) (fresh current 1) is-usable calls n i .0 w);
+    }
+  where
+    later : (n : ℕ) → 4 < n → n < 10 → ¬ List·Memᴰ (Part 9 2) (writesOf (heard Unsealed 1 (getD calls n nothing .frame)))
+    later n l i w =
+        ⊎-elim (λ e. let z = leb-true n 4 e in omega arith) (λ e. no-shared (Part 9 2 ∷ []) _ e (Part 9 2) (List·Memᴰ·head refl) w)
+        (or-either (leb n 4) _ (every-at (λ n. leb n 4 || disjoint (Part 9 2 ∷ []) (writesOf (heard Unsealed 1 (getD calls n nothing .frame)))) 10 n none-behind i))
+
+-- and the part ends with it
+pub second-stays : Holds (Part 9 2) (getD calls 4 nothing .frame) (final (step (heard Unsealed) current) (fresh current 1) calls)
+second-stays = last-call-holds (heard Unsealed) (heard-lawful Unsealed) current (Part 9 2) refl (fresh current 1) calls 4 second-is-last
+
+-- ---- turned round, the other sending stays: the order of calls that clash does show
+
+pub turned-round : (slice 14153 128 (final (step (heard Unsealed) current) (fresh current 1) (part3 1 12 1 ∷ (part3 1 12 2 ∷ []))) ≡ replicate 128 2)
+    × (slice 14153 128 (final (step (heard Unsealed) current) (fresh current 1) (part3 1 12 2 ∷ (part3 1 12 1 ∷ []))) ≡ replicate 128 1)
+unfolding served answered heard recognised sought lets tried stored ruleOf commands markOk addressOk countOk tableWord wordOk usable fresh when isTable tableIndex
+    partNamed lengthOk endsOk inner bodyOf contentsOf sumOk frameChecks frameOf isDigit valueOf charOf charsOf bytesOf checksumOf withBit judged within every all
+    slice lay zeros padded sumOf two wordAt
+turned-round = (refl, refl)
