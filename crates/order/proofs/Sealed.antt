@@ -1,19 +1,17 @@
--- Sealed, no frame writes a cell, so no two clash; and no frame changes the image, so any frames can be served in any order. Assumes nothing.
+-- Sealed, no frame writes a cell, so no two clash, and any frames can be served in any order. Assumes nothing.
 use mathlib.Core.Path.{_≡_, refl, sym, _∙_}
 use mathlib.Core.Logic.{inl, inr}
 use mathlib.Core.List.{List, [], _∷_, List·Memᴰ·not-nil}
-use mathlib.Core.Bool.{Bool, true, false}
+use mathlib.Core.Bool.{true}
 use Prim.Native.Nat.{ℕ}
 use native.Mathlib.Omega.{arith}
-use lib.ListN.{length}
+use lib.ListN.{length, getD}
 use Rattle.laws.specs.Checks.{check}
 use Rattle.laws.proofs.Tests.{never}
-use Rattle.reorder.specs.Reorder.{pick, Reorders, SameService}
-use Rattle.reorder.proofs.Order.{still-any-order}
-use Rattle.reorder.proofs.Readings.{alike-service}
+use Rattle.reorder.specs.Reorder.{place, pick, Reorders, SameService}
 use Rattle.frame.specs.Apart.{contentsOf, frameChecks}
 use Rattle.image.specs.declared.version.Version.{Version}
-use Rattle.image.specs.Usable.{usable, address}
+use Rattle.image.specs.Usable.{address}
 use Rattle.rules.specs.declared.rule.Act.the-variants.{Show, Sign, Store}
 use Rattle.rules.specs.declared.switch.Switch.the-variants.{Sealed}
 use Rattle.rules.specs.declared.verdict.Verdict.{Verdict}
@@ -24,11 +22,9 @@ use Rattle.rules.proofs.Following.{accepted-past}
 use Rattle.rules.proofs.Sealing.{write-refused}
 use Rattle.command.specs.Reply.{readsOf, writesOf}
 use Rattle.izk.specs.Heard.{heard}
-use Rattle.izk.proofs.Hearing.{heard-lawful}
-use Rattle.izk.proofs.Sealed.{heard-let, sealed-leaves-image}
+use Rattle.izk.proofs.Sealed.{heard-let}
 use Rattle.order.specs.Serving.{Call, nothing, framesOf, step, Meets, Clash}
-use Rattle.order.proofs.Demand3.{by-frame}
-use Rattle.order.proofs.Repeats.{unusable-step}
+use Rattle.order.proofs.Repeats.{repeats-serve}
 
 -- ---- cells
 
@@ -62,24 +58,8 @@ sealed-no-clash a x y (inr h) = meets-none a (y .frame) (heard Sealed a (x .fram
 
 -- ---- order
 
-module _ (v : Version) where
-  abbrev does : List ℕ → Call → (ℕ × List ℕ) × List ℕ
-  does = step (heard Sealed) v
-
-  still : (m : List ℕ) (x : Call) → does m x .1 ≡ m
-  still m x = sealed-leaves-image v (x .frame) m (x .out)
-
-  -- by its frame, also on an image that is not usable
-  alike : (m : List ℕ) (x y : Call) → x .frame ≡ y .frame → does m x ≡ does m y
-  alike m x y e = go (usable v m) refl
-    where
-      go : (t : Bool) → usable v m ≡ t → does m x ≡ does m y
-      go true u = by-frame (heard Sealed) (heard-lawful Sealed) v (address m) m x y (u, refl) e
-      go false u = unusable-step (heard Sealed) v m x u ∙ sym (unusable-step (heard Sealed) v m y u)
-
-  -- any frames, on any image, usable or not: in any order each has the number and the reply that it has in the list, and the image is the list's
-  pub sealed-any-order : (xs ys : List Call) (o m : List ℕ) → Reorders (length xs) o → framesOf ys ≡ pick [] (framesOf xs) o
-      → SameService (step (heard Sealed) v) (0, []) m xs ys o
-  sealed-any-order xs ys o m re frames =
-      alike-service does (λ m. Unit {0}) (λ m x g. tt) (λ x. x .frame) (λ m x y g e. alike m x y e) nothing (0, []) m xs ys o tt frames
-      (still-any-order does (λ m. Unit {0}) (λ m x g. still m x) nothing (0, []) xs o m tt re)
+-- any frames, on any image, usable or not: in any order each has the number and the reply that it has in the list, and the image is the list's
+pub sealed-any-order : (v : Version) (xs ys : List Call) (o m : List ℕ) → Reorders (length xs) o → framesOf ys ≡ pick [] (framesOf xs) o
+    → SameService (step (heard Sealed) v) (0, []) m xs ys o
+sealed-any-order v xs ys o m re frames =
+    repeats-serve Sealed v xs ys o m re frames (λ k n lt l c. absurd (sealed-no-clash (address m) (getD xs (place o k) nothing) (getD xs (place o n) nothing) c))
