@@ -20,6 +20,7 @@ use Rattle.rules.specs.declared.verdict.Verdict.{Verdict}
 use Rattle.rules.specs.declared.verdict.Verdict.the-variants.{Refused, Accepted}
 use Rattle.command.specs.Reply.{BuffersAfter, replyIn}
 use Rattle.izk.specs.Heard.{heard, Hearing, Lawful}
+use Rattle.izk.specs.Block.{served}
 use Rattle.izk.proofs.Hearing.{heard-lawful}
 use Rattle.izk.proofs.Serving.{unusable-is-1}
 use Rattle.order.specs.Serving.{Call, nothing, framesOf, step, Good, Meets, Clash, Ran, no-call, a-call}
@@ -141,6 +142,14 @@ module _ (s : Switch) where
       let k = ran-is then in
       let e : (r .number, take (r .len) written) ≡ step (heard s) current m x .0 = rw (p .number-is, p .len-is, p .out-is) refl in
       rw (← (p .image-is)) (ap₂ _∷_ e (k .0), k .1)
+
+  -- and there is that one
+  pub runs-so : (m : List ℕ) (xs : List Call) → Ran s m xs (outcomes (step (heard s) current) m xs) (final (step (heard s) current) m xs)
+  runs-so m [] = no-call m
+  runs-so m (x ∷ xs) =
+      let a = served (heard s) current (x .frame) m (x .out) in
+      a-call m x xs (record { number = a .number; len = a .len }) (a .image) (a .out) _ _
+      (record { number-is = refl; len-is = refl; image-is = refl; out-is = refl }) (runs-so (a .image) xs)
 
   -- so two rows of calls with the same frames, of which those that clash keep their order, return the same by place, and leave the same image
   pub runs-alike : {m m′ m″ : List ℕ} {xs ys : List Call} {rs ss : List (ℕ × List ℕ)} (o : List ℕ) → Reorders (length xs) o

@@ -13,6 +13,26 @@ use Rattle.reorder.specs.Last.{WroteAt, NoneWrote, LastWrote}
 use Rattle.reorder.proofs.Readings.{getD-pick, each-outcome}
 
 module _ {S F O : Type 0} (step : S → F → O × S) (Wrote : F → O → Type 0) (d : F) (e : O) where
+  -- ---- what is left
+
+  -- Kept s t: t has the thing as s has it. Holds f s: s has it as f writes it
+  module _ (Kept : S → S → Type 0) (Holds : F → S → Type 0) (self : (s : S) → Kept s s) (on : (s t u : S) → Kept s t → Kept t u → Kept s u)
+      (holds-on : (f : F) (s t : S) → Holds f s → Kept s t → Holds f t) (hit : (s : S) (f : F) → Wrote f (step s f .0) → Holds f (step s f .1))
+      (miss : (s : S) (f : F) → ¬ Wrote f (step s f .0) → Kept s (step s f .1)) where
+    pub none-wrote-keeps : (fs : List F) (s : S) → NoneWrote step Wrote d e s fs → Kept s (final step s fs)
+    none-wrote-keeps [] s h = self s
+    none-wrote-keeps (f ∷ fs) s h =
+        on s (step s f .1) (final step (step s f .1) fs) (miss s f (h 0 (omega arith))) (none-wrote-keeps fs (step s f .1) (λ k l. h (suc k) (omega arith)))
+
+    pub last-wrote-holds : (fs : List F) (k : ℕ) (s : S) → LastWrote step Wrote d e s fs k → Holds (getD fs k d) (final step s fs)
+    last-wrote-holds [] k s h = absurd (not-suc-le-zero (h .inside))
+    last-wrote-holds (f ∷ fs) zero s h =
+        holds-on f (step s f .1) (final step (step s f .1) fs) (hit s f (h .wrote))
+        (none-wrote-keeps fs (step s f .1) (λ n l. h .none-later (suc n) (omega arith) (omega arith)))
+    last-wrote-holds (f ∷ fs) (suc k) s h =
+        last-wrote-holds fs k (step s f .1)
+        (record { inside = le-of-suc-le-suc (h .inside); wrote = h .wrote; none-later = λ n l i. h .none-later (suc n) (omega arith) (omega arith) })
+
   -- ---- there is one last, or none that wrote
 
   pub last-once : (s : S) (fs : List F) (j k : ℕ) → LastWrote step Wrote d e s fs j → LastWrote step Wrote d e s fs k → j ≡ k
@@ -45,26 +65,6 @@ module _ {S F O : Type 0} (step : S → F → O × S) (Wrote : F → O → Type 
         go (inr (k, h)) w = inr (suc k, record { inside = omega (arith, h .inside); wrote = h .wrote; none-later = later k h })
         go (inl u) (yes w) = inr (0, record { inside = omega arith; wrote = w; none-later = first u })
         go (inl u) (no w) = inl (none u w)
-
-  -- ---- what is left
-
-  -- Kept s t: t has the thing as s has it. Holds f s: s has it as f writes it
-  module _ (Kept : S → S → Type 0) (Holds : F → S → Type 0) (self : (s : S) → Kept s s) (on : (s t u : S) → Kept s t → Kept t u → Kept s u)
-      (holds-on : (f : F) (s t : S) → Holds f s → Kept s t → Holds f t) (hit : (s : S) (f : F) → Wrote f (step s f .0) → Holds f (step s f .1))
-      (miss : (s : S) (f : F) → ¬ Wrote f (step s f .0) → Kept s (step s f .1)) where
-    pub none-wrote-keeps : (fs : List F) (s : S) → NoneWrote step Wrote d e s fs → Kept s (final step s fs)
-    none-wrote-keeps [] s h = self s
-    none-wrote-keeps (f ∷ fs) s h =
-        on s (step s f .1) (final step (step s f .1) fs) (miss s f (h 0 (omega arith))) (none-wrote-keeps fs (step s f .1) (λ k l. h (suc k) (omega arith)))
-
-    pub last-wrote-holds : (fs : List F) (k : ℕ) (s : S) → LastWrote step Wrote d e s fs k → Holds (getD fs k d) (final step s fs)
-    last-wrote-holds [] k s h = absurd (not-suc-le-zero (h .inside))
-    last-wrote-holds (f ∷ fs) zero s h =
-        holds-on f (step s f .1) (final step (step s f .1) fs) (hit s f (h .wrote))
-        (none-wrote-keeps fs (step s f .1) (λ n l. h .none-later (suc n) (omega arith) (omega arith)))
-    last-wrote-holds (f ∷ fs) (suc k) s h =
-        last-wrote-holds fs k (step s f .1)
-        (record { inside = le-of-suc-le-suc (h .inside); wrote = h .wrote; none-later = λ n l i. h .none-later (suc n) (omega arith) (omega arith) })
 
 -- ---- in another order
 

@@ -4,10 +4,10 @@ use mathlib.Core.Path.{_≡_, refl, sym, ap, _∙_}
 use mathlib.Core.Logic.{_≢_, _⊎_, inl, inr, _↔_}
 use mathlib.Core.List.{List, _++_, append-nil, List·Memᴰ, List·Memᴰ·head, List·Memᴰ·not-nil}
 use mathlib.Core.Bool.{true}
-use Prim.Native.Nat.{ℕ, _+_, _-_, _*_, _≤_}
+use Prim.Native.Nat.{ℕ, _+_, _-_, _*_, _≤_, _<_}
 use native.Mathlib.Omega.{arith}
-use lib.ListN.{length, drop}
-use lib.Seq.{getD-drop}
+use lib.ListN.{length, getD, drop}
+use lib.Seq.{getD-take, getD-drop}
 use borrow.Author.Tests.{eq-eqb, eqb-true}
 use Rattle.laws.specs.Bytes.{slice, zeros, padded, wordAt}
 use Rattle.laws.specs.Bits.{bit}
@@ -69,7 +69,12 @@ module _ (f m : List ℕ) where
   unfolding padded
   holds-errors n h = (h .filled .bytes, h .fits .counts ∙ ap (λ (b : ℕ). 1 + 3 * b) (getD-drop 3 (contentsOf f) 0 0))
 
--- a part that is kept has its 128 bytes and its bit as they were
+-- a cell that is kept has each of its bytes as it was
+pub kept-each : (d : Cell) (m n : List ℕ) → Kept d m n → (i : ℕ) → i < size d → getD n (offset d + i) 0 ≡ getD m (offset d + i) 0
+unfolding slice
+kept-each d m n k i l = simp (getD-take, getD-drop) at (ap (λ (x : List ℕ). getD x i 0) (k .bytes))
+
+-- and a part its 128 bytes and its bit
 pub kept-part : (t p : ℕ) (m n : List ℕ) → Kept (Part (tableIndex t) (p - 1)) m n
     → (slice (1225 + 1408 * tableIndex t + 128 * (p - 1)) 128 n ≡ slice (1225 + 1408 * tableIndex t + 128 * (p - 1)) 128 m)
     × (bit (wordAt n (17 + 2 * tableIndex t)) (p - 1) ≡ bit (wordAt m (17 + 2 * tableIndex t)) (p - 1))

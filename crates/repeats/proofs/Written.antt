@@ -2,9 +2,9 @@
 -- then the cell is as it was. On any image, with any output, for every version and every lawful hearing. Assumes nothing.
 use mathlib.Core.Path.{_≡_, refl, sym, ap, subst, _∙_}
 use mathlib.Core.Logic.{_⊎_, inl, inr}
-use mathlib.Core.List.{List, [], List·Memᴰ·not-nil}
+use mathlib.Core.List.{List, [], List·Memᴰ, List·Memᴰ·not-nil}
 use mathlib.Core.Bool.{true}
-use Prim.Native.Nat.{ℕ}
+use Prim.Native.Nat.{ℕ, _<_}
 use native.Mathlib.Decide.{ℕ-discrete}
 use native.Mathlib.Omega.{arith}
 use lib.ListN.{drop}
@@ -38,6 +38,10 @@ pub record Holds (d : Cell) (f m : List ℕ) : Type 0 where
   pub filled : Filled d (sentFor d f) m
   pub fits : FitStore d (sentFor d f)
 
+-- what was refused is no accepted write
+pub refused-is-none : (d : Cell) (f : List ℕ) (n : ℕ) → 0 < n → ¬ Wrote d f n
+refused-is-none d f n l w = let z = w .done-is in omega arith
+
 same-cell : (c d : Cell) → isCell c ≡ true → isCell d ≡ true → Dec (c ≡ d)
 same-cell c d h g = go (ℕ-discrete (offset c) (offset d))
   where
@@ -67,9 +71,12 @@ module _ (ear : Switch → Hearing) (ok : (s : Switch) → Lawful (ear s)) (v : 
     line : (a : Act) → ear (x .switch) (address m) (x .frame) ≡ Accepted e a b → writes a b ≡ useOf (byte c 2) uses .writes (byte c 3) (byte c 4)
     line a h = rw h at (accepted-cells (ear (x .switch)) (ok (x .switch)) (address m) (x .frame) h .1)
 
+    named : (a : Act) → ear (x .switch) (address m) (x .frame) ≡ Accepted e a b → Did → List·Memᴰ d (writes a b)
+    named a h w = subst (λ (l : List Cell). List·Memᴰ d l) (sym (line a h)) (w .names)
+
     looked : (a : Act) → (a ≡ Show) ⊎ (a ≡ Sign) → writes a b ≡ [] → ear (x .switch) (address m) (x .frame) ≡ Accepted e a b → Ended
     looked a s none h =
-        left-alone (λ w. List·Memᴰ·not-nil (rw (← (line a h), none) at (w .names)))
+        left-alone (λ w. List·Memᴰ·not-nil (rw none at (named a h w)))
         (kept-same d m after (show-and-sign-change-nothing (ear (x .switch)) v (x .frame) m (x .out) e b a s h))
 
     stores : (k : ℕ) → ear (x .switch) (address m) (x .frame) ≡ Accepted e (Store k) b → inTurn ear v m x .number ≡ 0
@@ -92,9 +99,9 @@ module _ (ear : Switch → Hearing) (ok : (s : Switch) → Lawful (ear s)) (v : 
             record { filled = subst (λ (j : ℕ). Filled b (drop j c) after) from f; fits = subst (λ (j : ℕ). FitStore b (drop j c)) from fit }
 
         go : Dec (d ≡ b) → Ended
-        go (yes s) = written (record { done-is = done; names = rw (← (line (Store k) h), s) (own-cell b (fit .cell)) }) (rw s holds)
+        go (yes s) = written (record { done-is = done; names = subst (λ (l : List Cell). List·Memᴰ d l) (line (Store k) h) (rw s (own-cell b (fit .cell))) }) (rw s holds)
         go (no n) =
-            left-alone (λ w. n (only-cell b d (fit .cell) (rw (← (line (Store k) h)) at (w .names))))
+            left-alone (λ w. n (only-cell b d (fit .cell) (named (Store k) h w)))
             (every-other-cell-keeps v b m after (write-changes-its-cell (ear (x .switch)) (ok (x .switch)) v (x .frame) m (x .out) e b k h) d cell n)
 
     acted : (a : Act) → ear (x .switch) (address m) (x .frame) ≡ Accepted e a b → inTurn ear v m x .number ≡ 0 → after ≡ leaves v a b c m → Ended
@@ -107,7 +114,7 @@ module _ (ear : Switch → Hearing) (ok : (s : Switch) → Lawful (ear s)) (v : 
     where
       go : Went ear ok v m x → Ended
       go (refused n l i) =
-          left-alone (λ w. let z : n ≡ 0 = sym (ap (λ r. r .number) i) ∙ w .done-is in omega arith) (kept-same d m after (ap (λ r. r .image) i))
+          left-alone (λ w. refused-is-none d (x .frame) n l (subst (Wrote d (x .frame)) (ap (λ r. r .number) i) w)) (kept-same d m after (ap (λ r. r .image) i))
       go (accepted u e a b h i) = acted u e b a h (ap (λ r. r .number) i) (ap (λ r. r .image) i)
 
   pub decided : Dec Did
