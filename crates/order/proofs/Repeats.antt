@@ -79,8 +79,9 @@ module _ (ear : Hearing) (v : Version) where
     -- every call is refused 1 there and changes nothing, so all orders are alike
     unusable-any-order : usable v m ≡ false → SameService (step ear v) (0, []) m xs ys o
     unusable-any-order u =
-        alike-service (step ear v) (λ m. usable v m ≡ false) (λ m x b. rw (still m x b) b) (λ x. x .frame) (λ m x y b e. unusable-step m x b ∙ sym (unusable-step m y b))
-        nothing (0, []) m xs ys o u frames (still-any-order (step ear v) (λ m. usable v m ≡ false) still nothing (0, []) xs o m u re)
+        alike-service (step ear v) (λ m. usable v m ≡ false) (λ m x b. rw (still m x b) b) (λ x. x .frame)
+        (λ m x y b e. unusable-step m x b ∙ sym (unusable-step m y b)) nothing (0, []) m xs ys o u frames
+        (still-any-order (step ear v) (λ m. usable v m ≡ false) still nothing (0, []) xs o m u re)
       where
         still : (m : List ℕ) (x : Call) → usable v m ≡ false → step ear v m x .1 ≡ m
         still m x b = ap (λ (r : (ℕ × List ℕ) × List ℕ). r .1) (unusable-step m x b)

@@ -62,4 +62,5 @@ sealed-no-clash a x y (inr h) = meets-none a (y .frame) (heard Sealed a (x .fram
 pub sealed-any-order : (v : Version) (xs ys : List Call) (o m : List ℕ) → Reorders (length xs) o → framesOf ys ≡ pick [] (framesOf xs) o
     → SameService (step (heard Sealed) v) (0, []) m xs ys o
 sealed-any-order v xs ys o m re frames =
-    repeats-serve Sealed v xs ys o m re frames (λ k n lt l c. absurd (sealed-no-clash (address m) (getD xs (place o k) nothing) (getD xs (place o n) nothing) c))
+    repeats-serve Sealed v xs ys o m re frames
+    (λ k n lt l c. absurd (sealed-no-clash (address m) (getD xs (place o k) nothing) (getD xs (place o n) nothing) c))

@@ -90,7 +90,8 @@ module _ {S F O L : Type 0} (step : S → F → O × S) (look : F → L) (Wrote 
   back k l w = subst₂ Wrote (sym (look-same k l)) (sym (each-outcome step e s fs gs o same k l)) w
 
   -- the one that is the last to write in the list is the last in the other order too
-  pub last-stays-last : ((i j : ℕ) → i < length fs → j < length fs → WroteAt step Did d e s fs i → WroteAt step Did d e s fs j → Clash (getD fs i d) (getD fs j d))
+  pub last-stays-last : ((i j : ℕ) → i < length fs → j < length fs → WroteAt step Did d e s fs i → WroteAt step Did d e s fs j
+      → Clash (getD fs i d) (getD fs j d))
       → (k : ℕ) → k < length o → LastWrote step Did d e s fs (place o k) → LastWrote step Did d e s gs k
   last-stays-last clashes k l h =
       record { inside = omega (arith, long); wrote = back k l (h .wrote); none-later = λ n lt i w. later n lt (omega (arith, long)) w }

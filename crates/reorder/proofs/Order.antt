@@ -37,7 +37,8 @@ module _ {F : Type 0} (Clash : F → F → Type 0) (d : F) (turn : (f g : F) →
       go (yes p) = p
       go (no p) =
           let ne = re .once k m lt l in
-          let (k′, m′, lt′, l′, ek, em) = h (place o m) (place o k) (omega arith) (re .inside k (omega arith)) (turn (getD fs (place o k) d) (getD fs (place o m) d) c) in
+          let c′ = turn (getD fs (place o k) d) (getD fs (place o m) d) c in
+          let (k′, m′, lt′, l′, ek, em) = h (place o m) (place o k) (omega arith) (re .inside k (omega arith)) c′ in
           let a = one-place k′ m (omega arith) l ek in
           let b = one-place m′ k l′ (omega arith) em in
           absurd (omega arith)

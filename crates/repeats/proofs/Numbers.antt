@@ -83,7 +83,8 @@ kept-part t p m n k = (k .bytes, k .its-bit (tableIndex t) (p - 1) refl)
 
 -- ---- what counts as writing a part
 
-module _ (ear : Switch → Hearing) (ok : (s : Switch) → Lawful (ear s)) (v : Version) (t p : ℕ) (table : isTable t ≡ true) (low : 1 ≤ p) (m : List ℕ) (x : Turn) where
+module _ (ear : Switch → Hearing) (ok : (s : Switch) → Lawful (ear s)) (v : Version) (t p : ℕ) (table : isTable t ≡ true) (low : 1 ≤ p)
+    (m : List ℕ) (x : Turn) where
   abbrev c : List ℕ
   c = contentsOf (x .frame)
 
@@ -99,7 +100,8 @@ module _ (ear : Switch → Hearing) (ok : (s : Switch) → Lawful (ear s)) (v : 
       by : usable v m ≡ true → (e : ℕ) (a : Act) (b : Cell) → ear (x .switch) (address m) (x .frame) ≡ Accepted e a b → writesPart t p c ≡ true
       by u e a b h = go a h (rw (← (rw h at (accepted-cells (ear (x .switch)) (ok (x .switch)) (address m) (x .frame) h .1))) at (w .names))
         where
-          go : (a : Act) → ear (x .switch) (address m) (x .frame) ≡ Accepted e a b → List·Memᴰ (Part (tableIndex t) (p - 1)) (writes a b) → writesPart t p c ≡ true
+          go : (a : Act) → ear (x .switch) (address m) (x .frame) ≡ Accepted e a b → List·Memᴰ (Part (tableIndex t) (p - 1)) (writes a b)
+              → writesPart t p c ≡ true
           go Show h n = absurd (List·Memᴰ·not-nil n)
           go Sign h n = absurd (List·Memᴰ·not-nil n)
           go (Store k) h n =

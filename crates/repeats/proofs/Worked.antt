@@ -4,7 +4,7 @@
 use mathlib.Core.Path.{_≡_, refl}
 use mathlib.Core.Logic.{⊎-elim}
 use mathlib.Core.List.{List, [], _∷_, _++_, map, List·Memᴰ, List·Memᴰ·head}
-use mathlib.Core.Bool.{true, _||_}
+use mathlib.Core.Bool.{Bool, true, _||_}
 use Prim.Native.Nat.{ℕ, _<_}
 use native.Mathlib.Omega.{arith}
 use lib.ListN.{length, getD, replicate, length-replicate}
@@ -79,9 +79,9 @@ unfolding undoes other back every
 redone = refl
 
 keeps-theirs : inOrder (heard Unsealed) 1 calls other ≡ true
-unfolding inOrder ordered apart clear disjoint all run calls other heard recognised sought lets tried ruleOf commands when isTable tableIndex tableNamed partNamed
-    rowed rowsNamed degrees rises lengthOk endsOk inner bodyOf contentsOf sumOk frameChecks frameOf isDigit valueOf charOf charsOf bytesOf checksumOf judged
-    within every slice sumOf
+unfolding inOrder ordered apart clear disjoint all run calls other heard recognised sought lets tried ruleOf commands when isTable tableIndex tableNamed
+    partNamed rowed rowsNamed degrees rises lengthOk endsOk inner bodyOf contentsOf sumOk frameChecks frameOf isDigit valueOf charOf charsOf bytesOf
+    checksumOf judged within every slice sumOf
 keeps-theirs = refl
 
 is-usable : usable current (fresh current 1) ≡ true
@@ -152,14 +152,17 @@ answered-so = refl
 -- ---- the last sending
 
 -- of the calls behind the second sending none writes the part
-none-behind : every (λ n. leb n 4 || disjoint (Part 9 2 ∷ []) (writesOf (heard Unsealed 1 (getD calls n nothing .frame)))) 10 ≡ true
+abbrev writesElse : ℕ → Bool
+writesElse n = leb n 4 || disjoint (Part 9 2 ∷ []) (writesOf (heard Unsealed 1 (getD calls n nothing .frame)))
+
+none-behind : every writesElse 10 ≡ true
 unfolding disjoint all run calls heard recognised sought lets tried ruleOf commands when isTable tableIndex tableNamed partNamed rowed rowsNamed degrees rises
     lengthOk endsOk inner bodyOf contentsOf sumOk frameChecks frameOf isDigit valueOf charOf charsOf bytesOf checksumOf judged within every slice sumOf
 none-behind = refl
 
 second-writes : writesOf (heard Unsealed 1 (getD calls 4 nothing .frame)) ≡ Part 9 2 ∷ []
-unfolding all calls heard recognised sought lets tried ruleOf commands when isTable tableIndex partNamed lengthOk endsOk inner bodyOf contentsOf sumOk frameChecks
-    frameOf isDigit valueOf charOf charsOf bytesOf checksumOf judged within every slice sumOf
+unfolding all calls heard recognised sought lets tried ruleOf commands when isTable tableIndex partNamed lengthOk endsOk inner bodyOf contentsOf sumOk
+    frameChecks frameOf isDigit valueOf charOf charsOf bytesOf checksumOf judged within every slice sumOf
 second-writes = refl
 
 -- so the second is the last accepted write of part 3 of table 12, the refused one behind it not counted
@@ -178,7 +181,7 @@ second-is-last =
     later : (n : ℕ) → 4 < n → n < 10 → ¬ List·Memᴰ (Part 9 2) (writesOf (heard Unsealed 1 (getD calls n nothing .frame)))
     later n l i w =
         ⊎-elim (λ e. let z = leb-true n 4 e in omega arith) (λ e. no-shared (Part 9 2 ∷ []) _ e (Part 9 2) (List·Memᴰ·head refl) w)
-        (or-either (leb n 4) _ (every-at (λ n. leb n 4 || disjoint (Part 9 2 ∷ []) (writesOf (heard Unsealed 1 (getD calls n nothing .frame)))) 10 n none-behind i))
+        (or-either (leb n 4) _ (every-at writesElse 10 n none-behind i))
 
 -- and the part ends with it
 pub second-stays : Holds (Part 9 2) (getD calls 4 nothing .frame) (final (step (heard Unsealed) current) (fresh current 1) calls)
@@ -188,7 +191,7 @@ second-stays = last-call-holds (heard Unsealed) (heard-lawful Unsealed) current 
 
 pub turned-round : (slice 14153 128 (final (step (heard Unsealed) current) (fresh current 1) (part3 1 12 1 ∷ (part3 1 12 2 ∷ []))) ≡ replicate 128 2)
     × (slice 14153 128 (final (step (heard Unsealed) current) (fresh current 1) (part3 1 12 2 ∷ (part3 1 12 1 ∷ []))) ≡ replicate 128 1)
-unfolding served answered heard recognised sought lets tried stored ruleOf commands markOk addressOk countOk tableWord wordOk usable fresh when isTable tableIndex
-    partNamed lengthOk endsOk inner bodyOf contentsOf sumOk frameChecks frameOf isDigit valueOf charOf charsOf bytesOf checksumOf withBit judged within every all
-    slice lay zeros padded sumOf two wordAt
+unfolding served answered heard recognised sought lets tried stored ruleOf commands markOk addressOk countOk tableWord wordOk usable fresh when isTable
+    tableIndex partNamed lengthOk endsOk inner bodyOf contentsOf sumOk frameChecks frameOf isDigit valueOf charOf charsOf bytesOf checksumOf withBit judged
+    within every all slice lay zeros padded sumOf two wordAt
 turned-round = (refl, refl)

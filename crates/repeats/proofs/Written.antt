@@ -99,7 +99,9 @@ module _ (ear : Switch → Hearing) (ok : (s : Switch) → Lawful (ear s)) (v : 
             record { filled = subst (λ (j : ℕ). Filled b (drop j c) after) from f; fits = subst (λ (j : ℕ). FitStore b (drop j c)) from fit }
 
         go : Dec (d ≡ b) → Ended
-        go (yes s) = written (record { done-is = done; names = subst (λ (l : List Cell). List·Memᴰ d l) (line (Store k) h) (rw s (own-cell b (fit .cell))) }) (rw s holds)
+        go (yes s) =
+            let names = subst (λ (l : List Cell). List·Memᴰ d l) (line (Store k) h) (rw s (own-cell b (fit .cell))) in
+            written (record { done-is = done; names = names }) (rw s holds)
         go (no n) =
             left-alone (λ w. n (only-cell b d (fit .cell) (named (Store k) h w)))
             (every-other-cell-keeps v b m after (write-changes-its-cell (ear (x .switch)) (ok (x .switch)) v (x .frame) m (x .out) e b k h) d cell n)
