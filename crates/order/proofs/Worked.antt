@@ -71,11 +71,11 @@ unfolding quiet noneMeet apart clear disjoint all run calls partsSent othersSent
     within every slice sumOf
 no-two-meet = refl
 
-is-usable : usable current (fresh current 1) ≡ true
+pub is-usable : usable current (fresh current 1) ≡ true
 is-usable = fresh-usable current 1 (λ e. absurd (let z : ⊥ = omega arith in z))
 
 -- the same frames in that order, into longer outputs that hold other characters
-abbrev refilled : Call → Call
+abbrev pub refilled : Call → Call
 refilled x = record { frame = x .frame; out = replicate 300 42; room = rw (length-replicate {A = ℕ} 300 42) (omega arith) }
 
 unfoldable pub callsAgain : List Call

@@ -7,7 +7,7 @@ use mathlib.Core.List.{List, [], _∷_, _++_, map, List·Memᴰ, List·Memᴰ·h
 use mathlib.Core.Bool.{Bool, true, _||_}
 use Prim.Native.Nat.{ℕ, _<_}
 use native.Mathlib.Omega.{arith}
-use lib.ListN.{length, getD, replicate, length-replicate}
+use lib.ListN.{getD, replicate}
 use lib.Dec.{leb, lit<}
 use borrow.Author.Tests.{leb-true}
 use Rattle.laws.specs.Bytes.{slice, lay, zeros, padded, sumOf, two, wordAt}
@@ -25,7 +25,6 @@ use Rattle.image.specs.Cell.{run, when, isTable, tableIndex, tableNamed, partNa
 use Rattle.image.specs.Words.{tableWord}
 use Rattle.image.specs.Usable.{markOk, addressOk, countOk, wordOk, usable}
 use Rattle.image.specs.Fresh.{fresh}
-use Rattle.image.proofs.FreshImage.{fresh-usable}
 use Rattle.storing.specs.Stored.{stored}
 use Rattle.rules.specs.declared.switch.Switch.the-variants.{Unsealed}
 use Rattle.rules.specs.Rules.{rowed, rowsNamed, degrees, rises, commands, ruleOf}
@@ -38,6 +37,7 @@ use Rattle.izk.proofs.Hearing.{heard-lawful}
 use Rattle.order.specs.Serving.{Call, call, nothing, framesOf, step}
 use Rattle.order.proofs.Tests.{disjoint, no-shared, clear, apart, ordered, inOrder, keeps-of}
 use Rattle.order.proofs.Repeats.{repeats-serve}
+use Rattle.order.proofs.Worked.{is-usable, refilled}
 use Rattle.repeats.specs.Written.{LastCall}
 use Rattle.repeats.proofs.Written.{Holds}
 use Rattle.repeats.proofs.Last.{last-call-holds, wrote-exactly}
@@ -84,13 +84,7 @@ unfolding inOrder ordered apart clear disjoint all run calls other heard recogni
     checksumOf judged within every slice sumOf
 keeps-theirs = refl
 
-is-usable : usable current (fresh current 1) ≡ true
-is-usable = fresh-usable current 1 (λ e. absurd (let z : ⊥ = omega arith in z))
-
 -- the same frames in that order, into longer outputs that hold other characters
-abbrev refilled : Call → Call
-refilled x = record { frame = x .frame; out = replicate 300 42; room = rw (length-replicate {A = ℕ} 300 42) (omega arith) }
-
 unfoldable pub callsAgain : List Call
 callsAgain = map refilled (pick nothing calls other)
 
