@@ -1,7 +1,7 @@
 -- Lists in which a cell is written more than once (document 02, request 14). A refused call clashes with none, so where it stands does not matter; of the
 -- block the theorem holds in either position of the switch, and of calls by the promise of serving. Assumes nothing.
 use mathlib.Core.Path.{_≡_, refl, sym, ap, ap₂, _∙_}
-use mathlib.Core.Logic.{_≢_, _⊎_, inl, inr}
+use mathlib.Core.Logic.{_≢_, inl, inr}
 use mathlib.Core.List.{List, [], _∷_, List·Memᴰ·not-nil}
 use mathlib.Core.Bool.{Bool, true, false}
 use Prim.Native.Nat.{ℕ, zero, suc, _<_}

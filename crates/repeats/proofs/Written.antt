@@ -1,6 +1,6 @@
 -- One turn and one cell: either the turn is an accepted write of the cell, and then the cell holds what the frame sends for it, or it is none, and
 -- then the cell is as it was. On any image, with any output, for every version and every lawful hearing. Assumes nothing.
-use mathlib.Core.Path.{_≡_, refl, sym, ap, subst, _∙_}
+use mathlib.Core.Path.{_≡_, refl, sym, ap, subst}
 use mathlib.Core.Logic.{_⊎_, inl, inr}
 use mathlib.Core.List.{List, [], List·Memᴰ, List·Memᴰ·not-nil}
 use mathlib.Core.Bool.{true}
