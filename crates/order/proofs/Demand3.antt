@@ -2,7 +2,7 @@
 use mathlib.Core.Path.{_≡_, refl, sym, ap, ap₂, _∙_}
 use mathlib.Core.Logic.{inl, inr}
 use mathlib.Core.List.{List, [], _++_}
-use Prim.Native.Nat.{ℕ, _+_, _<_}
+use Prim.Native.Nat.{ℕ, _+_, _≤_, _<_}
 use lib.ListN.{length, getD, take}
 use Rattle.reorder.specs.Reorder.{outcomes, Commutes, place, pick, Reorders, NoClash, KeepsClashes, SameService}
 use Rattle.reorder.proofs.Order.{none-to-keep, keeping-order}
@@ -47,6 +47,10 @@ independent v c c′ m u (Accepted e a d) (Accepted k b d′) f g h =
     }
 
 -- ---- two calls
+
+-- any frame, with any output of at least 269 bytes, is a call
+pub any-call : (f out : List ℕ) → 269 ≤ length out → (x : Call) × (x .frame ≡ f) × (x .out ≡ out)
+any-call f out room = (record { frame = f; out = out; room = room }, refl, refl)
 
 module _ (ear : Hearing) (ok : Lawful ear) (v : Version) (a : ℕ) where
   pub clash-turn : (x y : Call) → Clash ear a x y → Clash ear a y x

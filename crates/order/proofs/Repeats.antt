@@ -66,7 +66,7 @@ module _ (ear : Hearing) (ok : Lawful ear) (v : Version) (a : ℕ) where
 -- ---- an image that is not usable
 
 module _ (ear : Hearing) (v : Version) where
-  unusable-step : (m : List ℕ) (x : Call) → usable v m ≡ false → step ear v m x ≡ ((1, []), m)
+  pub unusable-step : (m : List ℕ) (x : Call) → usable v m ≡ false → step ear v m x ≡ ((1, []), m)
   unusable-step m x u = ap (λ (b : BuffersAfter). ((b .number, replyIn b), b .image)) (unusable-is-1 ear v (x .frame) m (x .out) u)
 
   pub unusable-number : (xs : List Call) (m : List ℕ) → usable v m ≡ false → (i : ℕ) → i < length xs → getD (outcomes (step ear v) m xs) i (0, []) .0 ≡ 1

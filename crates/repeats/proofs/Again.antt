@@ -1,9 +1,9 @@
 -- The same bytes, stored again in the same cell, change nothing; so a frame that is sent again straight away is answered as before. What carries it is that
 -- touches agree: each touch of the second store may come right behind its twin of the first, and there it changes nothing, for the cell holds the new bytes
 -- already, so that what leaves is what comes. Only what the first store laid is known: of the image no byte need be below 256. Assumes nothing.
-use mathlib.Core.Path.{_≡_, refl, ap, ap₂, _∙_}
+use mathlib.Core.Path.{_≡_, refl, sym, ap, ap₂, _∙_}
 use mathlib.Core.List.{List, [], _∷_}
-use mathlib.Core.Bool.{true}
+use mathlib.Core.Bool.{Bool, true, false}
 use Prim.Native.Nat.{ℕ, _+_, _-_, _%_, _≤_}
 use native.Mathlib.Omega.{arith}
 use lib.ListN.{length, drop}
@@ -27,13 +27,17 @@ use Rattle.storing.proofs.Touches.{Room, AgreeAll, touched-lay, touched-swap, B
 use Rattle.storing.proofs.Stores.{cell-filled}
 use Rattle.rules.specs.declared.rule.Act.the-variants.{Show, Sign, Store}
 use Rattle.rules.specs.declared.switch.Switch.{Switch}
+use Rattle.rules.specs.declared.switch.Switch.the-variants.{Unsealed}
 use Rattle.rules.specs.declared.verdict.Verdict.the-variants.{Accepted}
-use Rattle.command.specs.Reply.{done, sent}
+use Rattle.command.specs.Reply.{done, BuffersAfter, sent, replyIn}
 use Rattle.izk.specs.Heard.{answered, Hearing, Lawful}
 use Rattle.izk.specs.Since.{Turn, inTurn}
 use Rattle.izk.proofs.Serving.{served-is, usable-stays, address-stays, zero-is-accepted}
 use Rattle.izk.proofs.Changes.{accepted-fits}
 use Rattle.izk.proofs.Turns.{Went, refused, accepted, went}
+use Rattle.order.specs.Serving.{Call, step}
+use Rattle.order.proofs.Demand3.{by-frame, stays}
+use Rattle.order.proofs.Repeats.{unusable-step}
 
 -- ---- touches made twice
 
@@ -112,7 +116,8 @@ module _ (ear : Switch → Hearing) (ok : (s : Switch) → Lawful (ear s)) (v : 
   abbrev c : List ℕ
   c = contentsOf (x .frame)
 
-  -- sent again straight away, whatever it is, it has the same number, length and whole output, and leaves the image as it is
+  -- sent again straight away, whatever it is, the key being where it was and the same output lent again, it has the same number, length and whole
+  -- output, and leaves the image as it is
   pub again-alike : inTurn ear v (inTurn ear v m x .image) x ≡ inTurn ear v m x
   unfolding answered
   again-alike = go (went ear ok v m x)
@@ -136,3 +141,17 @@ module _ (ear : Switch → Hearing) (ok : (s : Switch) → Lawful (ear s)) (v : 
       go (accepted u e Show d h i) = unmoved (ap (λ r. r .image) i)
       go (accepted u e Sign d h i) = unmoved (ap (λ r. r .image) i)
       go (accepted u e (Store k) d h i) = stores u e k d h i
+
+-- into any two outputs with room for a reply: the same number and reply, and the image as it is
+module _ (ear : Hearing) (ok : Lawful ear) (v : Version) (m : List ℕ) (x y : Call) (same : x .frame ≡ y .frame) where
+  pub again-call : step ear v (step ear v m x .1) y ≡ step ear v m x
+  again-call = go (usable v m) refl
+    where
+      go : (t : Bool) → usable v m ≡ t → step ear v (step ear v m x .1) y ≡ step ear v m x
+      go true u =
+          sym (by-frame ear ok v (address m) (step ear v m x .1) x y (stays ear ok v (address m) m x (u, refl)) same)
+          ∙ ap (λ (a : BuffersAfter). ((a .number, replyIn a), a .image))
+          (again-alike (λ s. ear) (λ s. ok) v m (record { switch = Unsealed; frame = x .frame; out = x .out }))
+      go false u =
+          ap (λ (n : List ℕ). step ear v n y) (ap (λ (r : (ℕ × List ℕ) × List ℕ). r .1) (unusable-step ear v m x u)) ∙ unusable-step ear v m y u
+          ∙ sym (unusable-step ear v m x u)

@@ -49,8 +49,8 @@ module _ (f m : List ℕ) where
   filled-whole d h all = h .filled .bytes ∙ whole (size d) (sentFor d f) (h .fits .counts ∙ all _)
 
   -- any cell but an error table holds the bytes that were sent for it, which are as many as it has
-  pub holds-whole : (d : Cell) → ((e : ℕ) → d ≢ Errors e) → Holds d f m → slice (offset d) (size d) m ≡ sentFor d f
-  holds-whole d other h = filled-whole d h (go (extent-view d))
+  pub holds-whole : (d : Cell) → ((e : ℕ) → d ≢ Errors e) → Holds d f m → (slice (offset d) (size d) m ≡ sentFor d f) × (length (sentFor d f) ≡ size d)
+  holds-whole d other h = (filled-whole d h (go (extent-view d)), h .fits .counts ∙ go (extent-view d) _)
     where
       go : ((n : ℕ) → extent d n ≡ size d) ⊎ ((e : ℕ) × (d ≡ Errors e)) → (n : ℕ) → extent d n ≡ size d
       go (inl a) = a
@@ -58,9 +58,10 @@ module _ (f m : List ℕ) where
 
   -- part p of table t holds the bytes from byte 5 of the body on, 128 of them, and has its bit
   pub holds-part : (t p : ℕ) → Holds (Part (tableIndex t) (p - 1)) f m
-      → (slice (1225 + 1408 * tableIndex t + 128 * (p - 1)) 128 m ≡ drop 4 (contentsOf f)) × (bit (wordAt m (17 + 2 * tableIndex t)) (p - 1) ≡ 1)
+      → (slice (1225 + 1408 * tableIndex t + 128 * (p - 1)) 128 m ≡ drop 4 (contentsOf f)) × (length (drop 4 (contentsOf f)) ≡ 128)
+      × (bit (wordAt m (17 + 2 * tableIndex t)) (p - 1) ≡ 1)
   unfolding tableWord
-  holds-part t p h = (filled-whole (Part (tableIndex t) (p - 1)) h (λ n. refl), h .filled .its-bit (tableIndex t) (p - 1) refl)
+  holds-part t p h = (filled-whole (Part (tableIndex t) (p - 1)) h (λ n. refl), h .fits .counts, h .filled .its-bit (tableIndex t) (p - 1) refl)
 
   -- error table n holds the count and as many rows of three, from byte 4 of the body on, and zeros behind them up to its 64 bytes
   pub holds-errors : (n : ℕ) → Holds (Errors (n - 1)) f m

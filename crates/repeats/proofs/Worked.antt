@@ -14,7 +14,7 @@ use Rattle.laws.specs.Bytes.{slice, lay, zeros, padded, sumOf, two, wordAt}
 use Rattle.laws.specs.Checks.{judged, within, every, all}
 use Rattle.laws.specs.Bits.{withBit}
 use Rattle.laws.proofs.Tests.{or-either, every-at}
-use Rattle.reorder.specs.Reorder.{outcomes, final, pick, SameService}
+use Rattle.reorder.specs.Reorder.{outcomes, final, pick, Reorders, KeepsClashes, SameService}
 use Rattle.reorder.proofs.Tests.{undoes, reorders-of}
 use Rattle.frame.specs.Digits.{isDigit, valueOf, charOf, charsOf, bytesOf, checksumOf}
 use Rattle.frame.specs.Apart.{lengthOk, endsOk, inner, bodyOf, contentsOf, sumOk, frameChecks}
@@ -34,13 +34,13 @@ use Rattle.command.specs.Reply.{writesOf}
 use Rattle.izk.specs.Heard.{heard, answered}
 use Rattle.izk.specs.Block.{served}
 use Rattle.izk.proofs.Hearing.{heard-lawful}
-use Rattle.order.specs.Serving.{Call, call, nothing, framesOf, step}
+use Rattle.order.specs.Serving.{Call, call, nothing, framesOf, step, Clash}
 use Rattle.order.proofs.Tests.{disjoint, no-shared, clear, apart, ordered, inOrder, keeps-of}
 use Rattle.order.proofs.Repeats.{repeats-serve}
 use Rattle.order.proofs.Worked.{is-usable, refilled}
 use Rattle.repeats.specs.Written.{LastCall}
 use Rattle.repeats.proofs.Written.{Holds}
-use Rattle.repeats.proofs.Last.{last-call-holds, wrote-exactly}
+use Rattle.repeats.proofs.Last.{last-call-holds, wrote-exactly, last-call-stays}
 
 -- part 3 of a table, all of its bytes alike
 abbrev part3 : ℕ → ℕ → ℕ → Call
@@ -86,17 +86,35 @@ keeps-theirs = refl
 
 -- the same frames in that order, into longer outputs that hold other characters
 unfoldable pub callsAgain : List Call
-callsAgain = map refilled (pick nothing calls other)
+callsAgain =
+    map refilled (
+    part3 2 12 9
+    ∷ (call (frameOf (1 ∷ (51 ∷ (255 ∷ []))))
+    ∷ (call (frameOf (1 ∷ (62 ∷ (1 ∷ (2 ∷ (10 ∷ (0 ∷ (5 ∷ (20 ∷ (0 ∷ (6 ∷ [])))))))))))
+    ∷ (part3 1 12 1
+    ∷ (call (frameOf (1 ∷ (62 ∷ (1 ∷ (1 ∷ (15 ∷ (0 ∷ (9 ∷ []))))))))
+    ∷ (asked3
+    ∷ (part3 1 2 7
+    ∷ (part3 1 12 2
+    ∷ (asked3
+    ∷ (call (frameOf (1 ∷ (61 ∷ (12 ∷ []))))
+    ∷ [])))))))))
+    )
 
 same-frames : framesOf callsAgain ≡ pick [] (framesOf calls) other
 unfolding callsAgain calls other
 same-frames = refl
 
+in-order : KeepsClashes (Clash (heard Unsealed) 1) nothing calls other
+in-order = keeps-of (heard Unsealed) 1 calls other keeps-theirs
+
+reordered : Reorders 10 other
+unfolding back
+reordered = reorders-of back other undone redone
+
 pub same-service : SameService (step (heard Unsealed) current) (0, []) (fresh current 1) calls callsAgain other
-unfolding calls back fresh lay zeros
-same-service =
-    repeats-serve Unsealed current calls callsAgain other (fresh current 1) (reorders-of back other undone redone) same-frames
-    (keeps-of (heard Unsealed) 1 calls other keeps-theirs)
+unfolding calls fresh lay zeros
+same-service = repeats-serve Unsealed current calls callsAgain other (fresh current 1) reordered same-frames in-order
 
 -- ---- both orders, computed by the definition alone
 
@@ -177,9 +195,16 @@ second-is-last =
         ⊎-elim (λ e. let z = leb-true n 4 e in omega arith) (λ e. no-shared (Part 9 2 ∷ []) _ e (Part 9 2) (List·Memᴰ·head refl) w)
         (or-either (leb n 4) _ (every-at writesElse 10 n none-behind i))
 
+-- in the other order too, where it stands eighth
+pub second-stays-last : LastCall (heard Unsealed) current (Part 9 2) (fresh current 1) callsAgain 7
+unfolding calls other fresh lay zeros
+second-stays-last =
+    last-call-stays (heard Unsealed) (heard-lawful Unsealed) current (Part 9 2) calls callsAgain other (fresh current 1) reordered same-frames in-order 7 (lit< tt)
+    second-is-last
+
 -- and the part ends with it
 pub second-stays : Holds (Part 9 2) (getD calls 4 nothing .frame) (final (step (heard Unsealed) current) (fresh current 1) calls)
-second-stays = last-call-holds (heard Unsealed) (heard-lawful Unsealed) current (Part 9 2) refl (fresh current 1) calls 4 second-is-last
+second-stays = last-call-holds (heard Unsealed) (heard-lawful Unsealed) current (Part 9 2) (fresh current 1) calls 4 second-is-last
 
 -- ---- turned round, the other sending stays: the order of calls that clash does show
 

@@ -1,13 +1,15 @@
 -- One turn and one cell: either the turn is an accepted write of the cell, and then the cell holds what the frame sends for it, or it is none, and
--- then the cell is as it was. On any image, with any output, for every version and every lawful hearing. Assumes nothing.
-use mathlib.Core.Path.{_≡_, refl, sym, ap, subst}
+-- then the cell, if it is one, is as it was. On any image, with any output, for every version and every lawful hearing. Assumes nothing.
+use mathlib.Core.Path.{_≡_, refl, sym, ap, subst, _∙_}
 use mathlib.Core.Logic.{_⊎_, inl, inr}
-use mathlib.Core.List.{List, [], List·Memᴰ, List·Memᴰ·not-nil}
-use mathlib.Core.Bool.{true}
+use mathlib.Core.List.{List, [], _∷_, List·Memᴰ, List·Memᴰ·not-nil}
+use mathlib.Core.Bool.{Bool, true, false}
 use Prim.Native.Nat.{ℕ, _<_}
 use native.Mathlib.Decide.{ℕ-discrete}
 use native.Mathlib.Omega.{arith}
 use lib.ListN.{drop}
+use Rattle.laws.specs.Checks.{all, among}
+use Rattle.laws.proofs.Tests.{never, all-among}
 use Rattle.frame.specs.Apart.{contentsOf}
 use Rattle.image.specs.declared.cell.Cell.{Cell}
 use Rattle.image.specs.declared.version.Version.{Version}
@@ -21,8 +23,10 @@ use Rattle.storing.proofs.Stores.{own-bit, cell-filled}
 use Rattle.rules.specs.declared.rule.Act.{Act}
 use Rattle.rules.specs.declared.rule.Act.the-variants.{Show, Sign, Store}
 use Rattle.rules.specs.declared.switch.Switch.{Switch}
+use Rattle.rules.specs.declared.switch.Switch.the-variants.{Sealed}
 use Rattle.rules.specs.declared.verdict.Verdict.the-variants.{Accepted}
 use Rattle.rules.specs.Rules.{byte}
+use Rattle.rules.specs.Seal.{lets}
 use Rattle.command.specs.Act.{leaves, writes}
 use Rattle.command.specs.Uses.{uses, useOf}
 use Rattle.izk.specs.Heard.{Hearing, Lawful}
@@ -30,7 +34,7 @@ use Rattle.izk.specs.Since.{Turn, inTurn}
 use Rattle.izk.proofs.Changes.{Filled, Kept, accepted-fits, show-and-sign-change-nothing, write-changes-its-cell, every-other-cell-keeps}
 use Rattle.izk.proofs.Turns.{Went, refused, accepted, went}
 use Rattle.order.proofs.FrameCells.{accepted-cells}
-use Rattle.repeats.specs.Written.{ahead, sentFor, Wrote}
+use Rattle.repeats.specs.Written.{ahead, sentFor, writtenBy, Wrote}
 use Rattle.repeats.proofs.Ahead.{stored-from}
 
 -- the cell holds what a frame sends for it and 0 behind that, its bit is set if it is a part; and what is sent is all that counts of the cell
@@ -42,17 +46,35 @@ pub record Holds (d : Cell) (f m : List ℕ) : Type 0 where
 pub refused-is-none : (d : Cell) (f : List ℕ) (n : ℕ) → 0 < n → ¬ Wrote d f n
 refused-is-none d f n l w = let z = w .done-is in omega arith
 
-same-cell : (c d : Cell) → isCell c ≡ true → isCell d ≡ true → Dec (c ≡ d)
-same-cell c d h g = go (ℕ-discrete (offset c) (offset d))
+-- nor is a frame of one of the eight commands that a sealed block serves
+isNone : List Cell → Bool
+isNone [] = true
+isNone (c ∷ cs) = false
+
+none-of : (cs : List Cell) → isNone cs ≡ true → (d : Cell) → ¬ List·Memᴰ d cs
+unfolding isNone
+none-of [] h d w = List·Memᴰ·not-nil w
+none-of (c ∷ cs) h d w = never h
+
+pub eight-write-none : (d : Cell) (f : List ℕ) (n : ℕ) → lets Sealed (byte (contentsOf f) 2) ≡ true → ¬ Wrote d f n
+unfolding lets all among useOf uses isNone
+eight-write-none d f n eight w =
+    let c = contentsOf f in
+    none-of _ (all-among (λ k. isNone (writtenBy k (byte c 3) (byte c 4))) (byte c 2) (50 ∷ 54 ∷ 55 ∷ 60 ∷ 61 ∷ 63 ∷ 64 ∷ 78 ∷ []) refl eight) d (w .names)
+
+-- whether something is a given cell can be told: cells stand at offsets of their own
+same-cell : (c d : Cell) → isCell d ≡ true → Dec (c ≡ d)
+same-cell c d g = go (isCell c) refl (ℕ-discrete (offset c) (offset d))
   where
-    go : Dec (offset c ≡ offset d) → Dec (c ≡ d)
-    go (yes e) = yes (one-cell c d h g (offset c) (omega arith, omega (arith, size-some c h)) (omega arith, omega (arith, size-some d g)))
-    go (no n) = no (λ e. n (ap offset e))
+    go : (b : Bool) → isCell c ≡ b → Dec (offset c ≡ offset d) → Dec (c ≡ d)
+    go false h o = no (λ e. never (sym h ∙ ap isCell e ∙ g))
+    go true h (yes e) = yes (one-cell c d h g (offset c) (omega arith, omega (arith, size-some c h)) (omega arith, omega (arith, size-some d g)))
+    go true h (no n) = no (λ e. n (ap offset e))
 
 pub kept-same : (d : Cell) (m n : List ℕ) → n ≡ m → Kept d m n
 kept-same d m n e = rw e (record { bytes = refl; its-bit = λ j q i. refl })
 
-module _ (ear : Switch → Hearing) (ok : (s : Switch) → Lawful (ear s)) (v : Version) (d : Cell) (cell : isCell d ≡ true) (m : List ℕ) (x : Turn) where
+module _ (ear : Switch → Hearing) (ok : (s : Switch) → Lawful (ear s)) (v : Version) (d : Cell) (m : List ℕ) (x : Turn) where
   abbrev c : List ℕ
   c = contentsOf (x .frame)
 
@@ -64,11 +86,11 @@ module _ (ear : Switch → Hearing) (ok : (s : Switch) → Lawful (ear s)) (v : 
 
   pub data Ended : Type 0 where
     written : Did → Holds d (x .frame) after → Ended
-    left-alone : ¬ Did → Kept d m after → Ended
+    left-alone : ¬ Did → (isCell d ≡ true → Kept d m after) → Ended
 
   -- an accepted turn, by its act
   module _ (u : usable v m ≡ true) (e : ℕ) (b : Cell) where
-    line : (a : Act) → ear (x .switch) (address m) (x .frame) ≡ Accepted e a b → writes a b ≡ useOf (byte c 2) uses .writes (byte c 3) (byte c 4)
+    line : (a : Act) → ear (x .switch) (address m) (x .frame) ≡ Accepted e a b → writes a b ≡ writtenBy (byte c 2) (byte c 3) (byte c 4)
     line a h = rw h at (accepted-cells (ear (x .switch)) (ok (x .switch)) (address m) (x .frame) h .1)
 
     named : (a : Act) → ear (x .switch) (address m) (x .frame) ≡ Accepted e a b → Did → List·Memᴰ d (writes a b)
@@ -77,11 +99,11 @@ module _ (ear : Switch → Hearing) (ok : (s : Switch) → Lawful (ear s)) (v : 
     looked : (a : Act) → (a ≡ Show) ⊎ (a ≡ Sign) → writes a b ≡ [] → ear (x .switch) (address m) (x .frame) ≡ Accepted e a b → Ended
     looked a s none h =
         left-alone (λ w. List·Memᴰ·not-nil (rw none at (named a h w)))
-        (kept-same d m after (show-and-sign-change-nothing (ear (x .switch)) v (x .frame) m (x .out) e b a s h))
+        (λ cell. kept-same d m after (show-and-sign-change-nothing (ear (x .switch)) v (x .frame) m (x .out) e b a s h))
 
     stores : (k : ℕ) → ear (x .switch) (address m) (x .frame) ≡ Accepted e (Store k) b → inTurn ear v m x .number ≡ 0
         → after ≡ leaves v (Store k) b c m → Ended
-    stores k h done i = go (same-cell d b cell (fit .cell))
+    stores k h done i = go (same-cell d b (fit .cell))
       where
         fit : FitStore b (drop k c)
         fit = accepted-fits (ear (x .switch)) (ok (x .switch)) (x .frame) m e (Store k) b h .act
@@ -104,7 +126,7 @@ module _ (ear : Switch → Hearing) (ok : (s : Switch) → Lawful (ear s)) (v : 
             written (record { done-is = done; names = names }) (rw s holds)
         go (no n) =
             left-alone (λ w. n (only-cell b d (fit .cell) (named (Store k) h w)))
-            (every-other-cell-keeps v b m after (write-changes-its-cell (ear (x .switch)) (ok (x .switch)) v (x .frame) m (x .out) e b k h) d cell n)
+            (λ cell. every-other-cell-keeps v b m after (write-changes-its-cell (ear (x .switch)) (ok (x .switch)) v (x .frame) m (x .out) e b k h) d cell n)
 
     acted : (a : Act) → ear (x .switch) (address m) (x .frame) ≡ Accepted e a b → inTurn ear v m x .number ≡ 0 → after ≡ leaves v a b c m → Ended
     acted Show h done i = looked Show (inl refl) refl h
@@ -116,7 +138,8 @@ module _ (ear : Switch → Hearing) (ok : (s : Switch) → Lawful (ear s)) (v : 
     where
       go : Went ear ok v m x → Ended
       go (refused n l i) =
-          left-alone (λ w. refused-is-none d (x .frame) n l (subst (Wrote d (x .frame)) (ap (λ r. r .number) i) w)) (kept-same d m after (ap (λ r. r .image) i))
+          left-alone (λ w. refused-is-none d (x .frame) n l (subst (Wrote d (x .frame)) (ap (λ r. r .number) i) w))
+          (λ cell. kept-same d m after (ap (λ r. r .image) i))
       go (accepted u e a b h i) = acted u e b a h (ap (λ r. r .number) i) (ap (λ r. r .image) i)
 
   pub decided : Dec Did
@@ -133,9 +156,9 @@ module _ (ear : Switch → Hearing) (ok : (s : Switch) → Lawful (ear s)) (v : 
       go (written w h) = h
       go (left-alone n k) = absurd (n w)
 
-  pub miss : ¬ Did → Kept d m after
+  pub miss : ¬ Did → isCell d ≡ true → Kept d m after
   miss n = go ended
     where
-      go : Ended → Kept d m after
+      go : Ended → isCell d ≡ true → Kept d m after
       go (written w h) = absurd (n w)
       go (left-alone n k) = k

@@ -34,10 +34,14 @@ ahead (Table k) = 3
 abbrev pub sentFor : Cell → List ℕ → List ℕ
 sentFor d f = drop (ahead d) (contentsOf f)
 
--- a frame that was given a number is an accepted write of a cell: it was done, and by document 01's sentence its command writes the cell
+-- by document 01's sentence ("Cells"), the cells that a command writes with two bytes behind it
+abbrev pub writtenBy : ℕ → ℕ → ℕ → List Cell
+writtenBy k n p = useOf k uses .writes n p
+
+-- a frame that was given a number is an accepted write of a cell: it was done, and its command writes the cell
 pub record Wrote (d : Cell) (f : List ℕ) (n : ℕ) : Type 0 where
   pub done-is : n ≡ 0
-  pub names : let c = contentsOf f in List·Memᴰ d (useOf (byte c 2) uses .writes (byte c 3) (byte c 4))
+  pub names : let c = contentsOf f in List·Memᴰ d (writtenBy (byte c 2) (byte c 3) (byte c 4))
 
 -- ---- frames one after the other, each with any output, the switch turned between them or not
 
