@@ -1,4 +1,5 @@
--- Demand 3: frames of which no two clash may be served in any order, into any outputs, whatever hears them lawfully. Assumes nothing.
+-- Frames may be served in any order that keeps that of those that clash, into any outputs, whatever hears them lawfully; demand 3 is the case in which no
+-- two clash. Assumes nothing.
 use mathlib.Core.Path.{_≡_, refl, sym, ap, ap₂, _∙_}
 use mathlib.Core.Logic.{inl, inr}
 use mathlib.Core.List.{List, [], _++_}

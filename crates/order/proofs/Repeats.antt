@@ -1,5 +1,6 @@
--- Lists in which a cell is written more than once (document 02, request 14). A refused call clashes with none, so where it stands does not matter; of the
--- block the theorem holds in either position of the switch, and of calls by the promise of serving. Assumes nothing.
+-- Lists in which a cell is written more than once (document 02, request 14). On a usable image a refused call clashes with none, so where it
+-- stands does not matter; of the block the theorem holds in either position of the switch, on any image, and of calls by the promise of serving. Assumes
+-- nothing.
 use mathlib.Core.Path.{_≡_, refl, sym, ap, ap₂, _∙_}
 use mathlib.Core.Logic.{_≢_, inl, inr}
 use mathlib.Core.List.{List, [], _∷_, List·Memᴰ·not-nil}
@@ -51,7 +52,7 @@ module _ (ear : Hearing) (ok : Lawful ear) (v : Version) (a : ℕ) where
       by (Refused n) = refl
       by (Accepted e t d) = refl
 
-  -- a call that is refused clashes with none
+  -- a call that is refused on a usable image clashes with none
   pub refused-clashes-with-none : (m : List ℕ) (x y : Call) → Good v a m → step ear v m x .0 .0 ≢ 0 → (¬ Clash ear a x y) × (¬ Clash ear a y x)
   refused-clashes-with-none m x y g n =
       (λ c. n (number-is m x g ∙ clash-done x y c .0), λ c. n (number-is m x g ∙ clash-done y x c .1))

@@ -1,4 +1,5 @@
--- Demand 3's words for serving: a call, what it is answered, and when two calls clash (document 01, "Cells"). Assumes nothing.
+-- The words of demand 3 and of request 14 for serving: a call, what it is answered, when two calls clash (document 01, "Cells"), and calls one after the
+-- other by the promise. Assumes nothing.
 use mathlib.Core.Path.{_≡_}
 use mathlib.Core.Logic.{_⊎_}
 use mathlib.Core.List.{List, [], _∷_, map, List·Memᴰ}

@@ -1,1 +1,1 @@
-// No code: demand 3, proved over the definition of serving.
+// No code: in which orders frames may be served, proved over the definition of serving.

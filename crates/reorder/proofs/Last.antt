@@ -1,5 +1,5 @@
 -- What a list leaves of a thing that some of its members write: what the last of these wrote, or what was there. For any step; a reordering that
--- keeps the order of those that write it has the same last. Assumes nothing.
+-- keeps the order of those that write it, and answers each alike, has the same last. Assumes nothing.
 use mathlib.Core.Path.{_≡_, sym, ap, subst₂, _∙_}
 use mathlib.Core.Logic.{_⊎_, inl, inr}
 use mathlib.Core.List.{List, [], _∷_, map}

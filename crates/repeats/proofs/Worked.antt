@@ -1,6 +1,6 @@
--- A part sent twice, worked out: between the two sendings it is read, behind them it is read again by the same frame and its signature is asked; an error
--- table is replaced by a shorter one, the same part of another table is written, and a third sending is refused. In two orders, into two kinds of outputs,
--- the definition computes one image; the theorem's premises are computed on the list, and it is applied. Assumes nothing.
+-- A part sent twice, worked out: between the two sendings it is read, behind them it is read again by the same frame and the table's signature is asked; an
+-- error table is replaced by a shorter one, the same part of another table is written, and a third sending is refused. In two orders, into two kinds of
+-- outputs, the definition computes one image; the theorem's premises are computed on the list, and it is applied. Assumes nothing.
 use mathlib.Core.Path.{_≡_, refl}
 use mathlib.Core.Logic.{⊎-elim}
 use mathlib.Core.List.{List, [], _∷_, _++_, map, List·Memᴰ, List·Memᴰ·head}
@@ -199,8 +199,8 @@ second-is-last =
 pub second-stays-last : LastCall (heard Unsealed) current (Part 9 2) (fresh current 1) callsAgain 7
 unfolding calls other fresh lay zeros
 second-stays-last =
-    last-call-stays (heard Unsealed) (heard-lawful Unsealed) current (Part 9 2) calls callsAgain other (fresh current 1) reordered same-frames in-order 7 (lit< tt)
-    second-is-last
+    last-call-stays (heard Unsealed) (heard-lawful Unsealed) current (Part 9 2) calls callsAgain other (fresh current 1) reordered same-frames in-order 7
+    (lit< tt) second-is-last
 
 -- and the part ends with it
 pub second-stays : Holds (Part 9 2) (getD calls 4 nothing .frame) (final (step (heard Unsealed) current) (fresh current 1) calls)
