@@ -119,6 +119,17 @@ planted 'a wrong second digest of a move down' '^FAILED probe script [0-9]+ \(mo
 planted 'false words refused by a move down' '^  got      D 1 [0-9]+ [0-9]+<0A>' probe - "sed '58s/^D 0 /D 1 /'"
 # The first script of refusals begins with an image of the other version.
 planted 'a target changed by a refused move' '^FAILED probe script [0-9]+ \(moves refused\)' probe - "sed '1{/^U 1 /{s/9\$/8/;t;s/[0-8]\$/9/}}'"
+# In the first script of repeats a list of 30 frames follows the line of its fresh image. A part of a table is sent to another address and then to
+# this one, with other bytes, with these again and with a wrong checksum, with the first bytes again and to another address; each time it is read
+# behind that, and its table asked. Then a part is sent like that once more. The same list follows in another order up to line 62.
+planted 'a part sent again not stored' '^FAILED probe script [0-9]+ \(repeats in two orders\)' probe - "sed '5{/^S 0 15 /{N;s/^\(S 0 15 \([0-9]*\) [0-9]*\nS 0 13 \)[0-9]*/\1\2/}}'"
+planted 'a part read between two writes answered otherwise' '^FAILED probe script [0-9]+ \(repeats in two orders\)' probe - "sed '6{/^S 0 13 /{n;/^S 0 269 /{s/9\$/8/;t;s/[0-8]\$/9/}}}'"
+planted 'a part sent again with a wrong checksum but written' '^FAILED probe script [0-9]+ \(repeats in two orders\)' probe - "sed '9{/^S 0 13 /{n;s/^S 6 0 ./&9/}}'"
+planted 'another end in another order' '^  line     62$' probe - "sed '62{/^S 0 /{N;/\nF 0 /s/^S 0 [0-9]* ./&9/}}'"
+# A mask is sent and asked. Then, from a fresh image, it is asked and sent; here the image is that of the write before this is served.
+planted 'a write before the read that stands before it' '^FAILED probe script [0-9]+ \(lists out of order\)' probe - "sed '4{/^F 0 /{n;N;s/^\(S 0 11 \)[0-9]*\( [0-9]*\nS 0 11 \([0-9]*\) .*\)\$/\1\3\2/}}'"
+# The first sealed list sends a mask to another address, then to this one, asks it and sends another.
+planted 'a mask sent again sealed, refused but written' '^FAILED probe script [0-9]+ \(sealed lists in three orders\)' probe - "sed '5s/^K 16 0 ./&9/'"
 planted 'a bad end of the probe' 'ended with exit status: 3$' probe 3 cat
 wait
 passed=0

@@ -82,6 +82,7 @@ pub fn compare(options: &Options) -> io::Result<bool> {
             }
         }
     }
+    coverage.close();
     coverage.print(&mut tally.out)?;
     let missing = coverage.missing();
     for thing in &missing {
@@ -144,6 +145,7 @@ pub fn desk_calls(input: &[u8], drawn: bool, mut show: impl FnMut(&Came)) -> Vec
             image: desk.image(),
             second_before: &[],
             second: &[],
+            room: desk.room(),
             before: before.as_ref(),
         });
         before = Some(('d', number, piece.to_vec()));
@@ -179,6 +181,7 @@ pub fn probe_calls(script: &[u8], drawn: bool, mut show: impl FnMut(&Came)) -> V
                 image: probe.image(),
                 second_before: &second_before,
                 second: probe.second(),
+                room: probe.output_length,
                 before: before.as_ref(),
             });
             before = Some((call, number, input));

@@ -2,6 +2,7 @@
 
 mod checksum;
 mod moves;
+mod order;
 mod sealed;
 mod signatures;
 mod temperatures;
@@ -65,6 +66,8 @@ pub struct Came<'a> {
     /// If it moved an image, the second buffer before it and after it.
     pub second_before: &'a [u8],
     pub second: &'a [u8],
+    /// How long the output is.
+    pub room: usize,
     /// The call before it in its stream or script.
     pub before: Option<&'a Before>,
 }
@@ -106,6 +109,8 @@ enum Thing {
     Signature(char, bool, u8, signatures::Kind),
     /// What is counted of the moves, by whether the call was drawn.
     Move(char, bool, moves::Kind),
+    /// What is counted of lists in two orders, by whether their calls were drawn.
+    Order(char, bool, order::Kind),
 }
 
 /// How often each thing that the test must reach was reached.
@@ -115,6 +120,8 @@ pub struct Coverage {
     fixed: BTreeMap<fixed::Seen, (Vec<String>, usize)>,
     /// The words of each wrong block that is given the desk's stream as well.
     desk_words: Vec<signatures::Words>,
+    /// Lists as they come up.
+    order: order::Tally,
 }
 
 impl Coverage {
@@ -123,6 +130,7 @@ impl Coverage {
             things: BTreeMap::new(),
             fixed: BTreeMap::new(),
             desk_words: Vec::new(),
+            order: order::Tally::default(),
         };
         for (seen, rule) in fixed::wanted() {
             coverage.fixed.entry(seen).or_default().0.push(rule);
@@ -150,6 +158,7 @@ impl Coverage {
         self.count_switch(came);
         self.count_signatures(came);
         self.count_moves(came);
+        self.count_order(came);
         let seen = (call, input.to_vec(), line.to_string());
         if let Some((_, count)) = self.fixed.get_mut(&seen) {
             *count += 1;
@@ -213,6 +222,7 @@ impl Coverage {
                 missing.push(name);
             }
         }
+        missing.extend(self.missing_of_order());
         for ((_, _, line), (rules, count)) in &self.fixed {
             if *count < rules.len() {
                 missing.push(format!("{} with the line {line}", rules.join("; ")));
@@ -232,6 +242,7 @@ impl Coverage {
         self.print_switch(out)?;
         self.print_signatures(out)?;
         self.print_moves(out)?;
+        self.print_order(out)?;
         let fixed = self.fixed.values();
         let wanted: usize = fixed.clone().map(|(rules, _)| rules.len()).sum();
         let came: usize = fixed.map(|(rules, count)| rules.len().min(*count)).sum();
@@ -392,6 +403,7 @@ fn wanted() -> Vec<(Thing, String)> {
     wanted.extend(sealed::wanted());
     wanted.extend(signatures::wanted());
     wanted.extend(moves::wanted());
+    wanted.extend(order::wanted());
     wanted
 }
 

@@ -40,6 +40,11 @@ impl Desk {
         &self.image
     }
 
+    /// How long the output is.
+    pub fn room(&self) -> usize {
+        self.output.len()
+    }
+
     /// Serves a piece and gives its line. The desk is always unsealed (document
     /// 02, wish 11).
     pub fn step(&mut self, piece: &[u8]) -> String {

@@ -1,6 +1,8 @@
 //! Streams for the desk program: first those with a purpose of their own,
 //! then the fixed calls, then a sweep of body lengths for each command, then
-//! sessions by chance.
+//! lists in two orders, then sessions by chance.
+
+mod order;
 
 use crate::desk::INPUT_MAX;
 use crate::fixed;
@@ -70,7 +72,7 @@ const CASES: [Case; 40] = [
 
 /// How many streams have a purpose of their own.
 pub fn purposeful() -> usize {
-    CASES.len() + fixed::streams().len() + COMMANDS.len()
+    CASES.len() + fixed::streams().len() + COMMANDS.len() + order::STREAMS
 }
 
 /// Whether the stream of that number is one of fixed calls.
@@ -89,17 +91,16 @@ pub fn stream(seed: u64, number: usize) -> (String, Vec<u8>) {
         let (name, stream) = streams.swap_remove(number);
         return (name.to_string(), stream);
     }
-    match COMMANDS.get(number - streams.len()) {
-        Some(&command) => (
-            format!("body lengths of command {command}"),
-            body_lengths(&mut rng, command),
-        ),
-        None => {
-            let size = rng.pick(&[500, 4_000, 20_000, 60_000]);
-            let size = 1 + rng.below(size);
-            ("sessions by chance".to_string(), sessions(&mut rng, size))
-        }
+    let number = number - streams.len();
+    if let Some(&command) = COMMANDS.get(number) {
+        let name = format!("body lengths of command {command}");
+        return (name, body_lengths(&mut rng, command));
     }
+    order::stream(seed, number - COMMANDS.len()).unwrap_or_else(|| {
+        let size = rng.pick(&[500, 4_000, 20_000, 60_000]);
+        let size = 1 + rng.below(size);
+        ("sessions by chance".to_string(), sessions(&mut rng, size))
+    })
 }
 
 /// Sessions of at least this many bytes.

@@ -6,6 +6,7 @@
 mod buffers;
 mod checksum;
 mod moves;
+mod order;
 mod sealed;
 mod signatures;
 mod small_letters;
@@ -306,6 +307,7 @@ fn all_sessions() -> Vec<Session> {
     sessions.extend(sealed::sessions());
     sessions.extend(signatures::sessions());
     sessions.extend(moves::sessions());
+    sessions.extend(order::sessions());
     sessions
 }
 

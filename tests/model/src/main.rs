@@ -11,12 +11,14 @@
 //! a smaller N leaves none of them out. The run ends early after M failures.
 
 mod block;
+mod cells;
 mod compare;
 mod coverage;
 mod desk;
 mod desk_streams;
 mod fixed;
 mod items;
+mod order;
 mod probe;
 mod probe_scripts;
 #[cfg(test)]
@@ -73,7 +75,7 @@ fn pass(limit: usize, lines: fn(&[u8]) -> Vec<String>) -> io::Result<bool> {
 
 fn options(mut words: impl Iterator<Item = String>) -> Result<compare::Options, String> {
     let (mut desk, mut probe) = (None, None);
-    let (mut streams, mut seed, mut failures) = (340, 2012, usize::MAX);
+    let (mut streams, mut seed, mut failures) = (370, 2012, usize::MAX);
     let mut prefix = Vec::new();
     while let Some(word) = words.next() {
         if word == "--" {

@@ -2,6 +2,7 @@
 //! then the fixed calls, then broken records, then calls by chance.
 
 mod moves;
+mod order;
 
 use crate::fixed::{self, Change, Session, FILL};
 use crate::items::{self, Item, ITEMS};
@@ -20,11 +21,14 @@ const TABLES: usize = 1225;
 
 type Case = (&'static str, fn(&mut Rng) -> Script);
 
-const CASES: [Case; 30] = [
+const CASES: [Case; 36] = [
     ("empty", |_| Script::default()),
-    // These two stand early, so that faults planted in them are found soon.
+    // These stand early, so that faults planted in them are found soon.
     ("moves", moves::done),
     ("moves refused", moves::refused),
+    ("repeats in two orders", order::repeats),
+    ("sealed lists in three orders", order::sealed),
+    ("lists out of order", order::not_kept),
     ("rows at other addresses", other_addresses),
     ("fresh images", fresh_images),
     ("image lengths", image_lengths),
@@ -52,6 +56,9 @@ const CASES: [Case; 30] = [
     ("sealed, letters and checksums", sealed_texts),
     ("signatures", signatures),
     ("false signatures", false_signatures),
+    ("lists in three orders", order::unsealed),
+    ("longer lists in two orders", order::longer),
+    ("lists without a clash", order::apart),
 ];
 
 /// How many scripts `broken` has.

@@ -1,6 +1,7 @@
 //! The rows and rules the block is held to, one by one.
 
 mod moves;
+mod order;
 mod signatures;
 
 use crate::block::{build, fresh, held_parts, serve, take_apart, Refusal, Switch, IMAGE_BYTES};

@@ -57,13 +57,13 @@ pub(super) fn adding_up(sum: u16, count: usize) -> Vec<u8> {
 }
 
 /// A part of a table that adds up to this.
-fn part_cell(sum: u16) -> Vec<u8> {
+pub(super) fn part_cell(sum: u16) -> Vec<u8> {
     adding_up(sum, 128)
 }
 
 /// Constants that add up to this, with gas composition 1 and the rest in
 /// fields that are no reserve.
-fn constants_cell(sum: u16) -> Vec<u8> {
+pub(super) fn constants_cell(sum: u16) -> Vec<u8> {
     let fields = adding_up(sum - 1, 17);
     let mut cell = vec![0; 83];
     cell[3] = 1; // body byte 7
@@ -74,7 +74,7 @@ fn constants_cell(sum: u16) -> Vec<u8> {
 
 /// An error table of so many rows that adds up to this, count and all. Its
 /// temperatures are 0, 1, 2 and so on.
-fn errors_cell(count: u8, sum: u16) -> Vec<u8> {
+pub(super) fn errors_cell(count: u8, sum: u16) -> Vec<u8> {
     let temperatures: u16 = (0..u16::from(count)).sum();
     let corrections = adding_up(sum - u16::from(count) - temperatures, 42);
     let mut cell = vec![count];
@@ -87,7 +87,7 @@ fn errors_cell(count: u8, sum: u16) -> Vec<u8> {
 }
 
 /// An accepted 59, the word of the parts then held, and the signature.
-fn part(rule: &'static str, place: (u8, u8), held: u16, sum: u16, word: u16) -> Step {
+pub(super) fn part(rule: &'static str, place: (u8, u8), held: u16, sum: u16, word: u16) -> Step {
     let ((table, part), rows) = (place, part_cell(sum));
     serve(rule, &ask(1, 59, &[&[table, part], &rows[..]].concat()))
         .writes(&ask(1, 59, &[table, part]))
@@ -106,7 +106,7 @@ fn held_at(table: u8) -> usize {
     17 + word_of(59, table) - WORDS.start
 }
 
-fn constants(rule: &'static str, channel: u8, sum: u16, word: u16) -> Step {
+pub(super) fn constants(rule: &'static str, channel: u8, sum: u16, word: u16) -> Step {
     let at = item(53, channel).expect("a channel").offset;
     let cell = constants_cell(sum);
     serve(rule, &ask(1, 53, &[&[channel], &cell[..]].concat()))
@@ -115,7 +115,7 @@ fn constants(rule: &'static str, channel: u8, sum: u16, word: u16) -> Step {
         .stores(word_of(53, channel), &word.to_be_bytes())
 }
 
-fn errors(rule: &'static str, (number, count): (u8, u8), sum: u16, word: u16) -> Step {
+pub(super) fn errors(rule: &'static str, (number, count): (u8, u8), sum: u16, word: u16) -> Step {
     let at = item(62, number).expect("an error table").offset;
     let cell = errors_cell(count, sum);
     let sent = 1 + 3 * usize::from(count);
@@ -131,7 +131,7 @@ pub(super) fn asked(rule: &'static str, command: u8, number: u8, word: u16) -> S
     serve(rule, &ask(1, command, &[number])).writes(&ask(1, command, &[number, high, low]))
 }
 
-fn sealed(mut step: Step) -> Step {
+pub(super) fn sealed(mut step: Step) -> Step {
     step.letter = 'K';
     step
 }
