@@ -1,8 +1,8 @@
 -- What it is to hold what a frame sends, in the documents' numbers: of a part 128 bytes and the bit, of an error table its count, its rows and zeros behind
 -- them; and what an accepted write of a part is, by the frame's own bytes. Assumes nothing.
-use mathlib.Core.Path.{_≡_, refl, sym, ap, _∙_}
+use mathlib.Core.Path.{_≡_, refl, ap, _∙_}
 use mathlib.Core.Logic.{_≢_, _⊎_, inl, inr, _↔_}
-use mathlib.Core.List.{List, _++_, append-nil, List·Memᴰ, List·Memᴰ·head, List·Memᴰ·not-nil}
+use mathlib.Core.List.{List, _++_, append-nil, List·Memᴰ·head}
 use mathlib.Core.Bool.{true}
 use Prim.Native.Nat.{ℕ, _+_, _-_, _*_, _≤_, _<_}
 use native.Mathlib.Omega.{arith}
@@ -18,24 +18,17 @@ use Rattle.image.specs.declared.cell.Cell.the-variants.{Errors, Part}
 use Rattle.image.specs.declared.version.Version.{Version}
 use Rattle.image.specs.Cell.{offset, size, extent, isTable, tableIndex}
 use Rattle.image.specs.Words.{tableWord}
-use Rattle.image.specs.Usable.{usable, address}
 use Rattle.image.proofs.Cells.{extent-view}
-use Rattle.image.proofs.Stretches.{only-cell}
-use Rattle.rules.specs.declared.rule.Act.{Act}
-use Rattle.rules.specs.declared.rule.Act.the-variants.{Show, Sign, Store}
 use Rattle.rules.specs.declared.switch.Switch.{Switch}
-use Rattle.rules.specs.declared.verdict.Verdict.the-variants.{Accepted}
 use Rattle.rules.specs.Rules.{byte}
-use Rattle.command.specs.Act.{writes}
 use Rattle.command.specs.Uses.{uses, useOf}
 use Rattle.izk.specs.Heard.{Hearing, Lawful}
 use Rattle.izk.specs.Since.{Turn, inTurn, writesPart, wrote}
 use Rattle.izk.proofs.Serving.{zero-is-accepted}
-use Rattle.izk.proofs.Changes.{Kept, accepted-fits}
+use Rattle.izk.proofs.Changes.{Kept}
 use Rattle.izk.proofs.HeldSince.{write-is, stores-own}
-use Rattle.order.proofs.FrameCells.{accepted-cells}
 use Rattle.repeats.specs.Written.{sentFor, Wrote}
-use Rattle.repeats.proofs.Written.{Holds}
+use Rattle.repeats.proofs.Written.{Holds, Ended, written, left-alone, ended}
 
 -- ---- what a cell holds, in the documents' numbers
 
@@ -94,20 +87,13 @@ module _ (ear : Switch → Hearing) (ok : (s : Switch) → Lawful (ear s)) (v : 
 
   told : Did → wrote ear v t p m x ≡ true
   unfolding wrote
-  told w =
-      let (u, room, a) = zero-is-accepted (ear (x .switch)) (ok (x .switch)) v (x .frame) m (x .out) (w .done-is) in
-      rw (eq-eqb _ _ (w .done-is)) (by u (a .echo) (a .act) (a .cell) (a .verdict))
+  told w = rw (eq-eqb _ _ (w .done-is)) (go (ended ear ok v (Part (tableIndex t) (p - 1)) m x))
     where
-      by : usable v m ≡ true → (e : ℕ) (a : Act) (b : Cell) → ear (x .switch) (address m) (x .frame) ≡ Accepted e a b → writesPart t p c ≡ true
-      by u e a b h = go a h (rw (← (rw h at (accepted-cells (ear (x .switch)) (ok (x .switch)) (address m) (x .frame) h .1))) at (w .names))
-        where
-          go : (a : Act) → ear (x .switch) (address m) (x .frame) ≡ Accepted e a b → List·Memᴰ (Part (tableIndex t) (p - 1)) (writes a b)
-              → writesPart t p c ≡ true
-          go Show h n = absurd (List·Memᴰ·not-nil n)
-          go Sign h n = absurd (List·Memᴰ·not-nil n)
-          go (Store k) h n =
-              let fit = accepted-fits (ear (x .switch)) (ok (x .switch)) (x .frame) m e (Store k) b h .act in
-              stores-own ear ok v t p table low (x .switch) (x .frame) m u e b k h (sym (only-cell b _ (fit .cell) n))
+      go : Ended ear ok v (Part (tableIndex t) (p - 1)) m x → writesPart t p c ≡ true
+      go (written w e k h holds) =
+          let (u, room, a) = zero-is-accepted (ear (x .switch)) (ok (x .switch)) v (x .frame) m (x .out) (w .done-is) in
+          stores-own ear ok v t p table low (x .switch) (x .frame) m u e (Part (tableIndex t) (p - 1)) k h refl
+      go (left-alone n kept) = absurd (n w)
 
   counted : wrote ear v t p m x ≡ true → Did
   unfolding wrote useOf uses

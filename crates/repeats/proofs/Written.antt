@@ -84,8 +84,9 @@ module _ (ear : Switch → Hearing) (ok : (s : Switch) → Lawful (ear s)) (v : 
   abbrev Did : Type 0
   Did = Wrote d (x .frame) (inTurn ear v m x .number)
 
+  -- what is written is stored there
   pub data Ended : Type 0 where
-    written : Did → Holds d (x .frame) after → Ended
+    written : Did → (e k : ℕ) → ear (x .switch) (address m) (x .frame) ≡ Accepted e (Store k) d → Holds d (x .frame) after → Ended
     left-alone : ¬ Did → (isCell d ≡ true → Kept d m after) → Ended
 
   -- an accepted turn, by its act
@@ -123,7 +124,7 @@ module _ (ear : Switch → Hearing) (ok : (s : Switch) → Lawful (ear s)) (v : 
         go : Dec (d ≡ b) → Ended
         go (yes s) =
             let names = subst (λ (l : List Cell). List·Memᴰ d l) (line (Store k) h) (rw s (own-cell b (fit .cell))) in
-            written (record { done-is = done; names = names }) (rw s holds)
+            written (record { done-is = done; names = names }) e k (rw s h) (rw s holds)
         go (no n) =
             left-alone (λ w. n (only-cell b d (fit .cell) (named (Store k) h w)))
             (λ cell. every-other-cell-keeps v b m after (write-changes-its-cell (ear (x .switch)) (ok (x .switch)) v (x .frame) m (x .out) e b k h) d cell n)
@@ -146,19 +147,19 @@ module _ (ear : Switch → Hearing) (ok : (s : Switch) → Lawful (ear s)) (v : 
   decided = go ended
     where
       go : Ended → Dec Did
-      go (written w h) = yes w
+      go (written w e k i h) = yes w
       go (left-alone n k) = no n
 
   pub hit : Did → Holds d (x .frame) after
   hit w = go ended
     where
       go : Ended → Holds d (x .frame) after
-      go (written w h) = h
+      go (written w e k i h) = h
       go (left-alone n k) = absurd (n w)
 
   pub miss : ¬ Did → isCell d ≡ true → Kept d m after
   miss n = go ended
     where
       go : Ended → isCell d ≡ true → Kept d m after
-      go (written w h) = absurd (n w)
+      go (written w e k i h) = absurd (n w)
       go (left-alone n k) = k

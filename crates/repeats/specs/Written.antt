@@ -31,6 +31,7 @@ ahead (Errors e) = 3
 ahead (Part k p) = 4
 ahead (Table k) = 3
 
+-- what a frame sends for a cell: all that follows them
 abbrev pub sentFor : Cell → List ℕ → List ℕ
 sentFor d f = drop (ahead d) (contentsOf f)
 
@@ -61,7 +62,7 @@ module _ (ear : Switch → Hearing) (v : Version) (d : Cell) (m : List ℕ) (xs 
   abbrev pub LastWrite : ℕ → Type 0
   LastWrite = LastWrote (turned ear v) (λ x a. Wrote d (x .frame) (a .number)) noTurn noAnswer m xs
 
--- ---- calls with room for a reply, in one position of the switch
+-- ---- the same of calls with room for a reply, in one position of the switch
 
 module _ (ear : Hearing) (v : Version) (d : Cell) (m : List ℕ) (xs : List Call) where
   abbrev pub UnwrittenCall : Type 0
