@@ -1,4 +1,5 @@
--- When the order of serving does not show, for any step. `keeping-order` is the theorem, `any-order` its case without a clash. Assumes nothing.
+-- When the order of serving does not show, for any step. `keeping-order` is the theorem, `any-order` its case without a clash, and `still-any-order` that of
+-- a step that leaves its state. Assumes nothing.
 use mathlib.Core.Path.{_≡_, sym, ap, subst, _∙_}
 use mathlib.Core.Logic.{_↔_, inl, inr}
 use mathlib.Core.List.{List, List·Memᴰ}
@@ -12,16 +13,6 @@ use Rattle.reorder.proofs.Walk.{from, pairs-of, mem-place, place-mem, L
 -- ---- what keeps the order of those that clash
 
 module _ {F : Type 0} (Clash : F → F → Type 0) (d : F) (turn : (f g : F) → Clash f g → Clash g f) (fs : List F) (o : List ℕ) (re : Reorders (length fs) o) where
-  -- where no two clash, any reordering does
-  pub none-to-keep : NoClash Clash d fs → KeepsClashes Clash d fs o
-  none-to-keep none k m h l c = go (decLt (place o k) (place o m))
-    where
-      go : Dec (place o k < place o m) → place o k < place o m
-      go (yes p) = p
-      go (no p) =
-          let ne = re .once k m h l in
-          absurd (none (place o m) (place o k) (omega arith) (re .inside k (omega arith)) (turn (getD fs (place o k) d) (getD fs (place o m) d) c))
-
   one-place : (a b : ℕ) → a < length o → b < length o → place o a ≡ place o b → a ≡ b
   one-place a b la lb e = go (decLt a b) (decLt b a)
     where
@@ -57,6 +48,10 @@ module _ {F : Type 0} (Clash : F → F → Type 0) (d : F) (turn : (f g : F) →
   -- from either side it is the same
   pub in-order-exactly : ClashesInOrder Clash d fs o ↔ KeepsClashes Clash d fs o
   in-order-exactly = (served-first, stands-first)
+
+  -- where no two clash, any reordering keeps theirs
+  pub none-to-keep : NoClash Clash d fs → KeepsClashes Clash d fs o
+  none-to-keep none = served-first (λ i j lt l c. absurd (none i j lt l c))
 
 -- ---- the theorem
 
