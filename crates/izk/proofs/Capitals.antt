@@ -57,12 +57,13 @@ serve-alike k f g m out r s m′ m″ o p e x y = serve-one-outcome k g m out r 
 
 -- ---- replies
 
-module _ (s : Switch) (v : Version) (f m : List ℕ) (bytes : Bytes m) where
-  said : (a : Act) (d : Cell) → Bytes (says v a d m)
-  said Show d = bytes-slice _ _ m bytes
-  said Sign d = bytes-two (signature v d m) (signature-word v d m bytes)
-  said (Store k) d = bytes-none
+-- what a reply says of an image of bytes is bytes
+pub says-bytes : (v : Version) (m : List ℕ) → Bytes m → (a : Act) (d : Cell) → Bytes (says v a d m)
+says-bytes v m bytes Show d = bytes-slice _ _ m bytes
+says-bytes v m bytes Sign d = bytes-two (signature v d m) (signature-word v d m bytes)
+says-bytes v m bytes (Store k) d = bytes-none
 
+module _ (s : Switch) (v : Version) (f m : List ℕ) (bytes : Bytes m) where
   answer : noSmall (answered (heard s) v f m .reply) ≡ true
   unfolding answered heard all
   answer = go (heard s (address m) f) refl
@@ -72,7 +73,7 @@ module _ (s : Switch) (v : Version) (f m : List ℕ) (bytes : Bytes m) where
       go (Accepted x a d) e =
           let c = take (2 + x) (contentsOf f) in
           let low = bytes-take (2 + x) (contentsOf f) (contents-bytes f (accepted-passes (frameChecks f) _ e)) in
-          rw e (frame-in-capitals (c ++ says v a d m) (bytes-append c (says v a d m) low (said a d)))
+          rw e (frame-in-capitals (c ++ says v a d m) (bytes-append c (says v a d m) low (says-bytes v m bytes a d)))
 
   -- no reply has a small letter, on an image of bytes
   pub reply-in-capitals : (out : List ℕ) → noSmall (replyIn (served (heard s) v f m out)) ≡ true

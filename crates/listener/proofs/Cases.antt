@@ -1,0 +1,84 @@
+-- What a byte does, case by case, as the code asks: by facts about the numbers. Assumes nothing.
+use mathlib.Core.Path.{_≡_, refl}
+use mathlib.Core.Bool.{Bool, true, false, cond, _&&_, and-false}
+use Prim.Native.Nat.{ℕ, zero, suc, _-_, _<_, _≤_}
+use native.Mathlib.Omega.{arith}
+use lib.Dec.{leb, eqb}
+use borrow.Author.Tests.{leb-true, eqb-false, le-leb, lt-leb, eq-eqb, ne-eqb}
+use Rattle.laws.specs.Checks.{within}
+use Rattle.laws.proofs.Tests.{never, and-both, within-in, within-above}
+use Rattle.listener.specs.Listening.{starts, passes, drops, gathers, endsFrame, stepOf, beforeAt}
+
+module _ (before count : ℕ) (g : Bool) (byte : ℕ) where
+  pub is-colon : byte ≡ 58 → stepOf before count g byte ≡ starts
+  unfolding stepOf
+  is-colon e = rw (eq-eqb byte 58 e)
+
+  -- the flag is off, or no room has so many
+  pub not-gathering : ¬ (byte ≡ 58) → (g && leb count 269) ≡ false → stepOf before count g byte ≡ passes count g
+  unfolding stepOf
+  not-gathering n e = rw (ne-eqb byte 58 n, e)
+
+  pub flag-off : ¬ (byte ≡ 58) → g ≡ false → stepOf before count g byte ≡ passes count g
+  flag-off n e = not-gathering n (rw e)
+
+  pub over-full : ¬ (byte ≡ 58) → 269 < count → stepOf before count g byte ≡ passes count g
+  over-full n h = not-gathering n (rw (lt-leb count 269 h, and-false))
+
+  pub is-full : ¬ (byte ≡ 58) → g ≡ true → count ≡ 269 → stepOf before count g byte ≡ drops
+  unfolding stepOf
+  is-full n e h = rw (ne-eqb byte 58 n, e, le-leb count 269 (omega arith), eq-eqb count 269 h)
+
+  pub has-room : (ends : Bool) → ¬ (byte ≡ 58) → g ≡ true → count < 269 → endsFrame before count byte ≡ ends → stepOf before count g byte ≡ gathers count ends
+  unfolding stepOf
+  has-room ends n e h k = rw (ne-eqb byte 58 n, e, le-leb count 269 (omega arith), ne-eqb count 269 (omega arith), k)
+
+-- ---- whether it ends the frame
+
+module _ (before count byte : ℕ) where
+  pub none-before : count ≡ 0 → endsFrame before count byte ≡ false
+  unfolding endsFrame
+  none-before h = rw h
+
+  pub no-line-feed : ¬ (byte ≡ 10) → endsFrame before count byte ≡ false
+  unfolding endsFrame
+  no-line-feed n = rw (ne-eqb byte 10 n, and-false, and-false)
+
+  pub no-return : ¬ (before ≡ 13) → endsFrame before count byte ≡ false
+  unfolding endsFrame
+  no-return n = rw (ne-eqb before 13 n, and-false)
+
+  pub is-end : 1 ≤ count → before ≡ 13 → byte ≡ 10 → endsFrame before count byte ≡ true
+  unfolding endsFrame
+  is-end h e k = rw (le-leb 1 count h, eq-eqb before 13 e, eq-eqb byte 10 k)
+
+-- ---- where the byte before stands
+
+pub before-over : (count : ℕ) → 269 < count → beforeAt count ≡ 0
+unfolding beforeAt
+before-over count h = rw (within-above 1 269 count h)
+
+-- with none gathered, 0 - 1 is 0 too
+pub before-is : (count : ℕ) → count ≤ 269 → beforeAt count ≡ count - 1
+unfolding beforeAt within
+before-is zero h = refl
+before-is (suc n) h = rw (within-in 1 269 (suc n) (omega arith) h)
+
+-- ---- a byte that is stored is the last of those counted, and there is room for it
+
+-- by what the three tests said
+inside : (colon takes full : Bool) (count : ℕ) (g ends : Bool) → (takes ≡ true → count ≤ 269) → (full ≡ false → ¬ (count ≡ 269))
+    → cond colon starts (cond takes (cond full drops (gathers count ends)) (passes count g)) .stores ≡ true
+    → (1 ≤ cond colon starts (cond takes (cond full drops (gathers count ends)) (passes count g)) .count)
+    × (cond colon starts (cond takes (cond full drops (gathers count ends)) (passes count g)) .count ≤ 269)
+inside true takes full count g ends h k e = (omega arith, omega arith)
+inside false true true count g ends h k e = absurd (never e)
+inside false true false count g ends h k e = let a : count ≤ 269 = h refl in let b : ¬ (count ≡ 269) = k refl in (omega arith, omega arith)
+inside false false full count g ends h k e = absurd (never e)
+
+pub stores-inside : (before count : ℕ) (g : Bool) (byte : ℕ) → stepOf before count g byte .stores ≡ true
+    → (1 ≤ stepOf before count g byte .count) × (stepOf before count g byte .count ≤ 269)
+unfolding stepOf
+stores-inside before count g byte =
+    inside (eqb byte 58) (g && leb count 269) (eqb count 269) count g (endsFrame before count byte)
+    (λ e. leb-true count 269 (and-both g (leb count 269) e .1)) (eqb-false count 269)

@@ -1,0 +1,14 @@
+pub mod Cases
+pub mod Steps
+pub mod Element
+pub mod Record
+pub mod Along
+pub mod Shapes
+pub mod Gathering
+pub mod Handing
+pub mod Held
+pub mod Calls
+pub mod WellFormed
+pub mod Replies
+pub mod Line
+pub mod WorkedLine
