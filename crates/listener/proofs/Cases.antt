@@ -40,17 +40,13 @@ module _ (before count byte : ℕ) where
   unfolding endsFrame
   none-before h = rw h
 
-  pub no-line-feed : ¬ (byte ≡ 10) → endsFrame before count byte ≡ false
-  unfolding endsFrame
-  no-line-feed n = rw (ne-eqb byte 10 n, and-false, and-false)
-
   pub no-return : ¬ (before ≡ 13) → endsFrame before count byte ≡ false
   unfolding endsFrame
   no-return n = rw (ne-eqb before 13 n, and-false)
 
-  pub is-end : 1 ≤ count → before ≡ 13 → byte ≡ 10 → endsFrame before count byte ≡ true
+  pub by-line-feed : 1 ≤ count → before ≡ 13 → endsFrame before count byte ≡ eqb byte 10
   unfolding endsFrame
-  is-end h e k = rw (le-leb 1 count h, eq-eqb before 13 e, eq-eqb byte 10 k)
+  by-line-feed h e = rw (le-leb 1 count h, eq-eqb before 13 e)
 
 -- ---- where the byte before stands
 

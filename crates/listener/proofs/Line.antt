@@ -158,5 +158,5 @@ unfolding among
 short-on-line key l long p u room = (
   found l long [] short shortest,
   ap (map (λ a. a .number)) (line-served key l long p (record { frame = short; noise = [] } ∷ []) (shortest, (refl, tt)) .0)
-      ∙ ap (λ (n : ℕ). n ∷ []) (short-refused (key (p .turn)) (p .image) (p .out) u room),
+      ∙ ap (λ (n : ℕ). n ∷ []) (short-refused _ (p .image) (p .out) u room),
 )

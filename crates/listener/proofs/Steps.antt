@@ -12,7 +12,7 @@ use Rattle.listener.specs.declared.Listener.{Listener}
 use Rattle.listener.specs.declared.step.Step.{Step}
 use Rattle.listener.specs.Listening.{endsFrame, stepOf, beforeAt, stepped, listened}
 use Rattle.listener.specs.Handing.{Idle}
-use Rattle.listener.proofs.Cases.{not-gathering, is-full, has-room, is-end, before-is, stores-inside}
+use Rattle.listener.proofs.Cases.{not-gathering, is-full, has-room, by-line-feed, before-is, stores-inside}
 
 -- ---- a byte, by the rule that it falls under
 
@@ -50,7 +50,7 @@ module _ (l : Listener) where
   -- 0Ah right after 0Dh
   pub ends-the-frame : l .gathering ≡ true → 0 < l .count → l .count < 269 → getD (l .room) (l .count - 1) 0 ≡ 13
       → listened l 10 ≡ record { listener = record { room = lay (l .room) (l .count) (10 ∷ []); count = l .count + 1; gathering = false }; frame = true }
-  ends-the-frame g some low cr = gathers-one 10 (omega arith) g low true (is-end _ (l .count) 10 some cr refl)
+  ends-the-frame g some low cr = gathers-one 10 (omega arith) g low true (by-line-feed _ (l .count) 10 some cr)
 
 -- ---- what a step leaves
 

@@ -12,21 +12,21 @@ use Rattle.listener.specs.declared.step.Step.{Step}
 
 -- ---- over plain values: the byte before, how many are gathered, the flag, and the byte
 
--- 3Ah starts afresh
-abbrev pub starts : Step
-starts = record { count = 1; gathering = true; stores = true; frame = false }
-
 -- who is not gathering lets the byte pass
 abbrev pub passes : ℕ → Bool → Step
 passes count gathering = record { count = count; gathering = gathering; stores = false; frame = false }
 
 -- a byte for which there is no room drops what was gathered
 abbrev pub drops : Step
-drops = record { count = 0; gathering = false; stores = false; frame = false }
+drops = passes 0 false
 
 -- one byte more; the one that ends the frame hands it out, and the record stops gathering and still holds it
 abbrev pub gathers : ℕ → Bool → Step
 gathers count ends = record { count = count + 1; gathering = not ends; stores = true; frame = ends }
+
+-- 3Ah starts afresh
+abbrev pub starts : Step
+starts = gathers 0 false
 
 -- 0Ah right after 0Dh, which is judged among the gathered bytes: the first of them has none before it
 unfoldable pub endsFrame : ℕ → ℕ → ℕ → Bool

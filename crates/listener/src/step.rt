@@ -1,7 +1,7 @@
 // What a byte of the line does, over plain values: nothing here sees the room.
 ghost use mathlib.Core.Path.{_≡_};
 ghost use Prim.Native.Nat.{_<_};
-ghost use Rattle.listener.specs.Listening.{stepOf, beforeAt};
+ghost use Rattle.listener.specs.Listening.{passes, gathers, endsFrame, stepOf, beforeAt};
 
 // The count and the flag afterwards; whether the byte is stored, as the last of those counted; and whether a frame is there now.
 pub struct Step {
@@ -24,69 +24,58 @@ pub(crate) fn before_at(count: usize) -> usize
     count - 1
 }
 
+// A byte that is let pass, with the count and the flag that are left.
+fn passes(count: usize, gathering: bool) -> Step
+    ensures { λ r. ⌜ r ≡ passes count gathering ⌝ }
+{
+    Step {
+        count,
+        gathering,
+        stores: false,
+        frame: false,
+    }
+}
+
+// One byte more than the count, which may end the frame.
+fn gathers(count: usize, ends: bool) -> Step
+    requires { ⌜ count < 269 ⌝ }
+    ensures { λ r. ⌜ r ≡ gathers count ends ⌝ }
+{
+    Step {
+        count: count + 1,
+        gathering: !ends,
+        stores: true,
+        frame: ends,
+    }
+}
+
+// 0Ah right after 0Dh. The first byte gathered has none before it.
+fn ends_frame(before: u8, count: usize, byte: u8) -> bool
+    ensures { λ r. ⌜ r ≡ endsFrame before count byte ⌝ }
+{
+    if count == 0 {
+        return false;
+    }
+    if before != b'\r' {
+        return false;
+    }
+    byte == b'\n'
+}
+
 pub(crate) fn step_of(before: u8, count: usize, gathering: bool, byte: u8) -> Step
     ensures { λ r. ⌜ r ≡ stepOf before count gathering byte ⌝ }
 {
     if byte == b':' {
-        return Step {
-            count: 1,
-            gathering: true,
-            stores: true,
-            frame: false,
-        };
+        return gathers(0, false);
     }
     if !gathering {
-        return Step {
-            count,
-            gathering,
-            stores: false,
-            frame: false,
-        };
+        return passes(count, gathering);
     }
     if 269 < count {
-        return Step {
-            count,
-            gathering,
-            stores: false,
-            frame: false,
-        };
+        return passes(count, gathering);
     }
     if count == 269 {
-        return Step {
-            count: 0,
-            gathering: false,
-            stores: false,
-            frame: false,
-        };
+        return passes(0, false);
     }
-    if count == 0 {
-        return Step {
-            count: 1,
-            gathering: true,
-            stores: true,
-            frame: false,
-        };
-    }
-    if byte != b'\n' {
-        return Step {
-            count: count + 1,
-            gathering: true,
-            stores: true,
-            frame: false,
-        };
-    }
-    if before != b'\r' {
-        return Step {
-            count: count + 1,
-            gathering: true,
-            stores: true,
-            frame: false,
-        };
-    }
-    Step {
-        count: count + 1,
-        gathering: false,
-        stores: true,
-        frame: true,
-    }
+    gathers(count, ends_frame(before, count, byte))
 }

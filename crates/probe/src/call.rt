@@ -1,4 +1,5 @@
 // A record of the script, carried out.
+use crate::line;
 use crate::print;
 use crate::script;
 use crate::script::State;
@@ -7,13 +8,13 @@ use rules::Switch;
 ghost use Prim.Native.Nat.{_<_, _≤_};
 ghost use lib.ListN.{length};
 
-fn least(a: usize, b: usize) -> usize
+pub(crate) fn least(a: usize, b: usize) -> usize
     ensures { λ r. ⌜ r ≤ b ⌝ }
 {
     if a < b { a } else { b }
 }
 
-fn fill(out: &mut [u8], b: u8) {
+pub(crate) fn fill(out: &mut [u8], b: u8) {
     let mut i = 0;
     while i < out.len() {
         out[i] = b;
@@ -21,7 +22,7 @@ fn fill(out: &mut [u8], b: u8) {
     }
 }
 
-fn poke(image: &mut [u8], at: usize, b: u8) {
+pub(crate) fn poke(image: &mut [u8], at: usize, b: u8) {
     if at < image.len() {
         image[at] = b;
     }
@@ -33,7 +34,7 @@ fn answered(letter: u8, a: Answer) {
     print::number(a.len as u64);
 }
 
-fn serve(letter: u8, switch: Switch, frame: &[u8], image: &mut [u8], out: &mut [u8]) {
+pub(crate) fn serve(letter: u8, switch: Switch, frame: &[u8], image: &mut [u8], out: &mut [u8]) {
     answered(letter, izk::serve(frame, switch, image, out));
     print::bytes(image);
     print::bytes(out);
@@ -49,8 +50,7 @@ fn fresh(address: u8, image: &mut [u8]) {
 }
 
 fn held(rec: &[u8], image: &[u8]) {
-    let table = 65536 * script::two(rec, 1) + script::two(rec, 3);
-    let h = izk::held_parts(image, table as u32);
+    let h = izk::held_parts(image, script::four(rec, 1) as u32);
     print::letter(b'H');
     print::number(h.number as u64);
     print::number(h.parts as u64);
@@ -100,6 +100,40 @@ fn call(rec: &[u8], image: &mut [u8], out: &mut [u8]) {
     }
 }
 
+// A record that was read whole. A part of a buffer is written with its start, 0: so nothing is left to be shown of its length.
+fn carry_out(
+    mut state: State,
+    rec: &[u8],
+    image: &mut [u8],
+    second: &mut [u8],
+    out: &mut [u8],
+) -> State {
+    let letter = script::byte(rec, 0);
+    let long = least(state.long, image.len());
+    let other = least(state.second, second.len());
+    let room = least(state.room, out.len());
+    let l = state.listener;
+    match letter {
+        b'L' => state.long = script::three(rec, 1),
+        b'P' => poke(image, script::three(rec, 1), script::byte(rec, 4)),
+        b'W' => fill(image, script::byte(rec, 1)),
+        b'X' => {
+            state.long = other;
+            state.second = long;
+            state.turned = !state.turned;
+        }
+        b'O' => {
+            fill(out, script::byte(rec, 3));
+            state.room = script::two(rec, 1);
+        }
+        b'D' | b'U' => move_between(letter, &image[0..long], &mut second[0..other]),
+        b'Q' | b'R' | b'Y' => state.listener = line::changed(l, rec),
+        b'N' | b'V' => state.listener = line::hear(l, rec, &mut image[0..long], &mut out[0..room]),
+        _ => call(rec, &mut image[0..long], &mut out[0..room]),
+    }
+    state
+}
+
 // One record, or the end of the run where none can be read.
 pub(crate) fn step(
     mut state: State,
@@ -120,27 +154,7 @@ pub(crate) fn step(
         return state;
     }
     let e = at + n;
-    let rec = &text[at..e];
-    let letter = rec[0];
-    let long = least(state.long, image.len());
-    let other = least(state.second, second.len());
-    let room = least(state.room, out.len());
-    match letter {
-        b'L' => state.long = script::three(rec, 1),
-        b'P' => poke(image, script::three(rec, 1), script::byte(rec, 4)),
-        b'W' => fill(image, script::byte(rec, 1)),
-        b'X' => {
-            state.long = other;
-            state.second = long;
-            state.turned = !state.turned;
-        }
-        b'O' => {
-            fill(out, script::byte(rec, 3));
-            state.room = script::two(rec, 1);
-        }
-        b'D' | b'U' => move_between(letter, &image[..long], &mut second[..other]),
-        _ => call(rec, &mut image[..long], &mut out[..room]),
-    }
+    state = carry_out(state, &text[at..e], image, second, out);
     state.at = e;
     state
 }

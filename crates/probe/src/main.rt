@@ -1,5 +1,7 @@
-// Shows what the desk program cannot: the image and the output after each call of a script. tests/PROBE.md has the script's form.
+// Shows what the desk program cannot: the image and the output after each call of a script, and what a listener hands out. tests/PROBE.md has the
+// script's form.
 mod call;
+mod line;
 mod print;
 mod script;
 
@@ -24,6 +26,7 @@ fn run(text: &[u8], image: &mut [u8], second: &mut [u8], out: &mut [u8]) {
         second: IMAGE_LENGTH,
         room: 269,
         turned: false,
+        listener: listener::idle(),
     };
     while state.at < text.len() {
         state = if state.turned {

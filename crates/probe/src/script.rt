@@ -1,16 +1,18 @@
 // A script's records, and what the probe holds between them.
+use listener::Listener;
 ghost use mathlib.Core.Path.{_≡_};
 ghost use Prim.Native.Nat.{_<_, _≤_};
 ghost use lib.ListN.{length, getD};
 
-// Where the next record begins, how much of the image buffer, the second buffer and the output buffer a call is lent, and whether the two buffers have
-// changed places.
+// Where the next record begins, how much of the image buffer, the second buffer and the output buffer a call is lent, whether the two buffers have
+// changed places, and the listener's record.
 pub struct State {
     pub at: usize,
     pub long: usize,
     pub second: usize,
     pub room: usize,
     pub turned: bool,
+    pub listener: Listener,
 }
 
 // A byte of a record; one past its end counts 0.
@@ -36,16 +38,32 @@ pub(crate) fn three(rec: &[u8], i: usize) -> usize
     65536 * (byte(rec, i) as usize) + two(rec, i + 1)
 }
 
+// Four.
+pub(crate) fn four(rec: &[u8], i: usize) -> usize
+    requires { ⌜ i < 4094 ⌝ }
+    ensures { λ r. ⌜ r < 4294967296 ⌝ }
+{
+    65536 * two(rec, i) + two(rec, i + 2)
+}
+
+// Eight: a count is kept in full, whatever it is.
+pub(crate) fn eight(rec: &[u8], i: usize) -> usize
+    requires { ⌜ i < 4090 ⌝ }
+{
+    4294967296 * four(rec, i) + four(rec, i + 4)
+}
+
 // How many bytes a record of this letter has at the least, the letter among them; 0 for a letter that begins none.
 fn least_size(letter: u8) -> usize
-    ensures { λ r. ⌜ r ≤ 5 ⌝ }
+    ensures { λ r. ⌜ r ≤ 10 ⌝ }
 {
     match letter {
         b'D' | b'U' | b'X' => 1,
-        b'F' | b'W' => 2,
-        b'B' | b'K' | b'S' | b'T' => 3,
-        b'L' | b'O' => 4,
+        b'F' | b'W' | b'Y' => 2,
+        b'B' | b'K' | b'N' | b'S' | b'T' | b'V' => 3,
+        b'L' | b'O' | b'Q' => 4,
         b'H' | b'P' => 5,
+        b'R' => 10,
         _ => 0,
     }
 }

@@ -72,7 +72,7 @@ fn kept(s: &[u8], from: usize) -> usize {
     i - from
 }
 
-fn print_bytes(s: &[u8], n: usize) {
+pub(crate) fn print_bytes(s: &[u8], n: usize) {
     let mut i = 0;
     while i < n {
         if i < s.len() {

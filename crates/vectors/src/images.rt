@@ -38,9 +38,8 @@ pub(crate) fn get(image: &[u8], from: usize, n: u8) {
     }
 }
 
-// The offset and the value of each byte from `from` on that is not 0.
-pub(crate) fn list(image: &[u8], from: usize) {
-    let mut more = false;
+// The offset and the value of each byte from `from` on that is not 0. Where more stands before them, the first has its space too.
+pub(crate) fn list(image: &[u8], from: usize, mut more: bool) {
     let mut i = from;
     while i < image.len() {
         if image[i] != 0 {

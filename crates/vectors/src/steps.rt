@@ -2,19 +2,22 @@
 use crate::answers;
 use crate::cells;
 use crate::images;
+use crate::line;
 use crate::print;
 use crate::script;
 use image::IMAGE_LENGTH;
+use listener::Listener;
 use rules::Switch;
 
 // Between two stops of a line: whether text has begun, whether there was any, how much of the image buffer the next step is lent, whether it has changed
-// places with the second one, and how the key switch stands.
+// places with the second one, how the key switch stands, and the listener's record.
 pub struct Turn {
     pub text: bool,
     pub bare: bool,
     pub long: usize,
     pub turned: bool,
     pub switch: Switch,
+    pub listener: Listener,
 }
 
 // A step that prints, by its letter: its number, its bytes and the first two of them, and as much of the image as it is lent.
@@ -26,12 +29,29 @@ fn call(letter: u8, number: u32, bytes: &[u8], a: u8, b: u8, switch: Switch, ima
         b'd' => answers::line(bytes, switch, image),
         b'g' => images::get(image, n, a),
         b'h' => images::held(image, number),
-        b'i' => images::list(image, n),
+        b'i' => images::list(image, n, false),
         b'm' => images::mark(image, a, b),
         b'n' => print::start(izk::fresh(image, a) as usize),
         b't' => images::total(image, n),
         b'u' => images::usable(image, a),
         _ => answers::answer_into(letter, bytes, switch, n, image),
+    }
+}
+
+// The key switch as the byte says.
+fn keyed(turn: Turn, a: u8) -> Turn {
+    let listener = turn.listener;
+    Turn {
+        text: false,
+        bare: turn.bare,
+        long: turn.long,
+        turned: turn.turned,
+        switch: if a == 1 {
+            Switch::Sealed
+        } else {
+            Switch::Unsealed
+        },
+        listener,
     }
 }
 
@@ -56,28 +76,18 @@ fn run(s: &[u8], mut turn: Turn, image: &mut [u8], second: &mut [u8]) -> Turn {
         b'f' => {
             izk::fresh(&mut image[0..long], a);
         }
-        b'k' => {
-            return Turn {
-                text: false,
-                bare,
-                long,
-                turned,
-                switch: if a == 1 {
-                    Switch::Sealed
-                } else {
-                    Switch::Unsealed
-                },
-            };
-        }
+        b'k' => return keyed(turn, a),
         b'e' => turn.turned = !turned,
         b'l' => turn.long = number as usize,
         b'p' => images::put(image, number as usize, bytes),
+        b'r' => turn.listener = line::recorded(number as usize, a, bytes),
         b'w' => script::fill(image, a),
         _ => {
             if !bare {
                 print::text(b" = ");
             }
             match letter {
+                b'o' => turn.listener = line::off(turn.listener, bytes),
                 b'v' => images::moved(&image[0..long], a, number as usize, second),
                 _ => call(letter, number, bytes, a, b, switch, &mut image[0..long]),
             }
@@ -93,6 +103,7 @@ fn line_start() -> Turn {
         long: IMAGE_LENGTH,
         turned: false,
         switch: Switch::Unsealed,
+        listener: listener::idle(),
     }
 }
 

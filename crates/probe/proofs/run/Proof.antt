@@ -13,6 +13,9 @@ Inv-loop text image₀ second₀ out₀ state₀ image second out state =
 abbrev μ-loop : tie.MeasureT-loop
 μ-loop text image₀ second₀ out₀ state₀ image second out state = length text - state .at
 
+idle-requires : tie.Need-idle-requires Inv-loop μ-loop
+idle-requires c κs = search needs
+
 loop-holds : tie.Need-loop-holds Inv-loop μ-loop
 loop-holds c = search needs
 
@@ -52,6 +55,7 @@ run-spec =
     (tie.spec
     Inv-loop
     μ-loop
+    idle-requires
     loop-holds
     step-requires
     step-requires-2

@@ -1,56 +1,51 @@
 -- Each return by the case that its tests leave. Assumes nothing.
-use mathlib.Core.Path.{_≡_, sym, _∙_, ap}
-use mathlib.Core.Bool.{true, false}
+use mathlib.Core.Path.{sym, _∙_}
 use native.Mathlib.Omega.{arith}
 use borrow.Author.Needs.{needs}
 use borrow.Author.Tests.{not-true, not-false}
-use Rattle.listener.specs.Listening.{gathers}
-use Rattle.listener.proofs.Cases.{is-colon, flag-off, over-full, is-full, has-room, none-before, no-line-feed, no-return, is-end}
+use Rattle.listener.proofs.Cases.{is-colon, flag-off, over-full, is-full, has-room}
 use Rattle.listener.proofs.step.step_of.Statement.{statement}
 use Rattle.listener.proofs.step.step_of.Tie as tie
 
+gathers-requires : tie.Need-gathers-requires
+gathers-requires c κs = search needs
+
 returns : tie.Need-returns
-returns c = sym (is-colon _ _ _ _ (c .if1 .taken))
+returns c = c .gathers .ensures ∙ sym (is-colon _ _ _ _ (c .before .if1 .taken))
+
+passes-requires : tie.Need-passes-requires
+passes-requires c κs = search needs
 
 returns-2 : tie.Need-returns-2
-returns-2 c = sym (flag-off _ _ _ _ (c .before .if1 .left) (not-true _ (c .if2 .taken)))
+returns-2 c = let d = c .before in c .passes .ensures ∙ sym (flag-off _ _ _ _ (d .before .if1 .left) (not-true _ (d .if2 .taken)))
+
+passes-requires-2 : tie.Need-passes-requires-2
+passes-requires-2 c κs = search needs
 
 returns-3 : tie.Need-returns-3
-returns-3 c = sym (over-full _ _ _ _ (c .before .before .if1 .left) (c .if3 .taken))
+returns-3 c = let d = c .before in c .passes2 .ensures ∙ sym (over-full _ _ _ _ (d .before .before .if1 .left) (d .if3 .taken))
+
+passes-requires-3 : tie.Need-passes-requires-3
+passes-requires-3 c κs = search needs
 
 returns-4 : tie.Need-returns-4
-returns-4 c = sym (is-full _ _ _ _ (c .before .before .before .if1 .left) (not-false _ (c .before .before .if2 .left)) (c .if4 .taken))
+returns-4 c =
+    let d = c .before .before .before in
+    c .passes3 .ensures ∙ sym (is-full _ _ _ _ (d .before .if1 .left) (not-false _ (d .if2 .left)) (c .before .if4 .taken))
+
+ends-frame-requires : tie.Need-ends-frame-requires
+ends-frame-requires c κs = search needs
+
+gathers-requires-2 : tie.Need-gathers-requires-2
+gathers-requires-2 c κs = search needs
 
 returns-5 : tie.Need-returns-5
 returns-5 c =
-    let d = c .before .before .before in
-    let none : d .before .before .args .count ≡ 0 = c .if5 .taken in
-    ap (λ n. gathers n false) (sym none)
-    ∙ sym (has-room _ _ _ _ false (d .before .if1 .left) (not-false _ (d .if2 .left)) (omega arith) (none-before _ _ _ none))
-
-add-t6 : tie.Need-add-t6
-add-t6 c = search needs
-
-returns-6 : tie.Need-returns-6
-returns-6 c =
     let d = c .before .before .before .before in
-    sym (has-room _ _ _ _ false (d .before .if1 .left) (not-false _ (d .if2 .left)) (omega arith) (no-line-feed _ _ _ (c .if6 .taken)))
-
-add-t7 : tie.Need-add-t7
-add-t7 c = search needs
-
-returns-7 : tie.Need-returns-7
-returns-7 c =
-    let d = c .before .before .before .before .before in
-    sym (has-room _ _ _ _ false (d .before .if1 .left) (not-false _ (d .if2 .left)) (omega arith) (no-return _ _ _ (c .if7 .taken)))
-
-add-t8 : tie.Need-add-t8
-add-t8 c = search needs
-
-returns-8 : tie.Need-returns-8
-returns-8 c =
-    let d = c .before .before .before .before .before in
-    sym (has-room _ _ _ _ true (d .before .if1 .left) (not-false _ (d .if2 .left)) (omega arith) (is-end _ _ _ (omega arith) (omega arith) (omega arith)))
+    c .gathers2 .ensures ∙ sym (has-room _ _ _ _ _ (d .before .if1 .left) (not-false _ (d .if2 .left)) (omega arith) (sym (c .before .ends-frame .ensures)))
 
 pub step-of-spec : {M : Type 1} → statement M
-step-of-spec = tie.close (tie.spec returns returns-2 returns-3 returns-4 returns-5 add-t6 returns-6 add-t7 returns-7 add-t8 returns-8)
+step-of-spec =
+    tie.close
+    (tie.spec gathers-requires returns passes-requires returns-2 passes-requires-2 returns-3 passes-requires-3 returns-4 ends-frame-requires gathers-requires-2
+    returns-5)
