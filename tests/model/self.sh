@@ -130,6 +130,22 @@ planted 'another end in another order' '^  line     62$' probe - "sed '62{/^S 0 
 planted 'a write before the read that stands before it' '^FAILED probe script [0-9]+ \(lists out of order\)' probe - "sed '4{/^F 0 /{n;N;s/^\(S 0 11 \)[0-9]*\( [0-9]*\nS 0 11 \([0-9]*\) .*\)\$/\1\3\2/}}'"
 # The first sealed list sends a mask to another address, then to this one, asks it and sends another.
 planted 'a mask sent again sealed, refused but written' '^FAILED probe script [0-9]+ \(sealed lists in three orders\)' probe - "sed '5s/^K 16 0 ./&9/'"
+# The first lines of a listener are P1, a 3Ah inside a frame before it, a run of 270 bytes, P1 again, a run of 269 bytes and 3Ah 0Dh 0Ah. Each prints
+# a line for the frame, but for the run that is too long, and a line for the record. The digests are those of P1 without its 0Ah, of all twelve bytes,
+# of the 270, and of the room in which the first byte behind P1 is no longer that of the run.
+planted 'a frame handed out one byte late' '^  got      G 10 9 198261346<0A>' probe - "sed '1s/^G 9 9 /G 10 9 /'"
+planted 'a frame without its last byte' '^  got      G 9 8 2022915578<0A>' probe - "sed '1s/^G 9 9 198261346\$/G 9 8 2022915578/'"
+planted 'a 3Ah inside a frame gathered' '^  at       record N :01:0132CD<0D><0A> ' probe - "sed '3s/^G 12 9 198261346\$/G 12 12 2680934599/'"
+planted 'a drop that keeps the count' '^  got      N 269 0 [0-9]+<0A>' probe - "sed '5s/^N 0 0 /N 269 0 /'"
+planted 'an end of 270 bytes handed out' '^  got      G 270 270 2336524904<0A>' probe - "sed '5s/^N 0 0 /G 270 270 2336524904\n&/'"
+planted 'a byte past the count changed' '^  got      N 9 0 2276518832<0A>' probe - "sed '7s/^N 9 0 2043997060\$/N 9 0 2276518832/'"
+planted 'the longest frame not handed out' '^  expected G 269 269 [0-9]+<0A>' probe - "sed '8{/^G 269 269 /d}'"
+# Then a record whose count is 270 is given an end, and a line is served that writes a mask and asks it; last, a record that has gathered nothing is
+# given 0Ah, with 0Dh all over its room.
+planted 'an over-full record that is dropped' '^  got      N 0 0 [0-9]+<0A>' probe - "sed '12s/^N 270 1 /N 0 0 /'"
+planted 'a frame off the line not served' '^  at       record V <00><0D><0A>:01330FBD<0D><0A> ' probe - "sed '15{/^S 0 11 /d}'"
+planted 'a frame off the line answered but not stored' '^FAILED probe script [0-9]+ \(listener, first lines\)' probe - "sed '15s/^S 0 11 [0-9]* /S 0 11 2232525539 /'"
+planted 'a first byte that ends a frame' '^  got      N 1 0 [0-9]+<0A>' probe - "sed '19s/^N 1 1 /N 1 0 /'"
 planted 'a bad end of the probe' 'ended with exit status: 3$' probe 3 cat
 wait
 passed=0

@@ -3,6 +3,7 @@
 
 use std::fmt::Write as _;
 use std::io::{self, Read, Write};
+use std::ops::Range;
 use std::path::{Path, PathBuf};
 use std::process::{Child, Command, Stdio};
 use std::sync::mpsc;
@@ -11,7 +12,7 @@ use std::time::Duration;
 
 use crate::coverage::{Before, Came, Coverage};
 use crate::desk::Desk;
-use crate::probe::{serving, Probe, Record, Records};
+use crate::probe::{serving, Probe, Record, Records, Then};
 use crate::{desk, desk_streams, probe_scripts};
 
 /// A program that takes longer than this is stopped and has failed.
@@ -147,6 +148,7 @@ pub fn desk_calls(input: &[u8], drawn: bool, mut show: impl FnMut(&Came)) -> Vec
             second: &[],
             room: desk.room(),
             before: before.as_ref(),
+            listening: None,
         });
         before = Some(('d', number, piece.to_vec()));
         lines.push(line);
@@ -155,40 +157,102 @@ pub fn desk_calls(input: &[u8], drawn: bool, mut show: impl FnMut(&Came)) -> Vec
 }
 
 /// The probe's lines. Each call is shown as it comes up.
-pub fn probe_calls(script: &[u8], drawn: bool, mut show: impl FnMut(&Came)) -> Vec<String> {
-    let mut probe = Probe::new();
-    let mut lines = Vec::new();
-    let mut before: Option<Before> = None;
-    for record in Records::new(script) {
-        let image_before = probe.image().to_vec();
+pub fn probe_calls(script: &[u8], drawn: bool, show: impl FnMut(&Came)) -> Vec<String> {
+    let mut showing = Showing {
+        probe: Probe::new(),
+        drawn,
+        before: None,
+        show,
+    };
+    let records = Records::new(script);
+    records.flat_map(|record| showing.step(record)).collect()
+}
+
+/// A probe that shows its calls.
+struct Showing<F> {
+    probe: Probe,
+    drawn: bool,
+    /// The last call that was shown.
+    before: Option<Before>,
+    show: F,
+}
+
+impl<F: FnMut(&Came)> Showing<F> {
+    fn step(&mut self, record: Record) -> Vec<String> {
+        match record {
+            Record::Line(then, line) => self.line(then, line),
+            _ => self.call(record).into_iter().collect(),
+        }
+    }
+
+    fn call(&mut self, record: Record) -> Option<String> {
+        let image_before = self.probe.image().to_vec();
         let second_before = match record {
-            Record::MoveUp | Record::MoveDown => probe.second().to_vec(),
+            Record::MoveUp | Record::MoveDown => self.probe.second().to_vec(),
             _ => Vec::new(),
         };
-        let Some(line) = probe.step(record) else {
-            continue;
-        };
+        let line = self.probe.call(record)?;
         if let Some((call, input)) = call_of(record) {
             let number = number_in(&line, 1);
-            show(&Came {
-                call,
-                drawn,
-                input: &input,
-                number,
-                line: &line,
-                reply: probe.reply(),
-                image_before: &image_before,
-                image: probe.image(),
+            (self.show)(&Came {
+                drawn: self.drawn,
                 second_before: &second_before,
-                second: probe.second(),
-                room: probe.output_length,
-                before: before.as_ref(),
+                before: self.before.as_ref(),
+                ..came(&self.probe, (call, &input, number), &line, &image_before)
             });
-            before = Some((call, number, input));
+            self.before = Some((call, number, input));
         }
-        lines.push(line);
+        Some(line)
     }
-    lines
+
+    /// A line is shown behind the frames that are served off it.
+    fn line(&mut self, then: Then, line: &[u8]) -> Vec<String> {
+        let probe_before = self.probe.clone();
+        let (drawn, before, show) = (self.drawn, &mut self.before, &mut self.show);
+        let lines = self.probe.hear(then, line, |served| {
+            let number = number_in(served.line, 1);
+            let call = ('g', served.frame, number);
+            show(&Came {
+                drawn,
+                before: before.as_ref(),
+                ..came(served.probe, call, served.line, served.image_before)
+            });
+            *before = Some(('g', number, served.frame.to_vec()));
+        });
+        let call = (then.letter(), line, 0);
+        show(&Came {
+            drawn,
+            before: before.as_ref(),
+            listening: Some(&probe_before),
+            ..came(&self.probe, call, &lines.join("\n"), probe_before.image())
+        });
+        *before = Some((then.letter(), 0, line.to_vec()));
+        lines
+    }
+}
+
+/// A call, what it is given and its number, from the probe as it is behind it.
+fn came<'a>(
+    probe: &'a Probe,
+    (call, input, number): (char, &'a [u8], u8),
+    line: &'a str,
+    image_before: &'a [u8],
+) -> Came<'a> {
+    Came {
+        call,
+        drawn: false,
+        input,
+        number,
+        line,
+        reply: probe.reply(),
+        image_before,
+        image: probe.image(),
+        second_before: &[],
+        second: probe.second(),
+        room: probe.output_length,
+        before: None,
+        listening: None,
+    }
 }
 
 /// The letter of a call and what it is given.
@@ -218,22 +282,53 @@ fn describe(script: &[u8], line: usize) -> String {
     let mut probe = Probe::new();
     let mut printed = 0;
     for record in Records::new(script) {
-        if probe.step(record).is_none() {
-            continue;
-        }
-        if printed == line {
-            let (image, output) = (probe.image_length, probe.output_length);
-            let lengths = match record {
-                Record::MoveUp | Record::MoveDown => {
-                    format!("image {image}, second {}", probe.second_length)
+        let found = probe.clone();
+        let lines = probe.step(record);
+        if line < printed + lines.len() {
+            return match record {
+                Record::Line(then, bytes) => {
+                    let part = heard(&lines, line - printed, bytes.len());
+                    spell_line(&found, then, bytes, part)
                 }
-                _ => format!("image {image}, output {output}"),
+                _ => format!("record {} ({})", spell(record), lengths(&probe, record)),
             };
-            return format!("record {} ({lengths})", spell(record));
         }
-        printed += 1;
+        printed += lines.len();
     }
     "past the last record".to_string()
+}
+
+fn lengths(probe: &Probe, record: Record) -> String {
+    let (image, output) = (probe.image_length, probe.output_length);
+    match record {
+        Record::MoveUp | Record::MoveDown => {
+            format!("image {image}, second {}", probe.second_length)
+        }
+        _ => format!("image {image}, output {output}"),
+    }
+}
+
+/// The bytes of a line that one of the lines printed for it is about: those
+/// behind the frame before, up to its own frame or to the end.
+fn heard(lines: &[String], at: usize, length: usize) -> Range<usize> {
+    let taken = |line: &String| line.strip_prefix("G ")?.split(' ').next()?.parse().ok();
+    let mut ends: Vec<usize> = lines[..=at].iter().filter_map(taken).collect();
+    if at + 1 == lines.len() {
+        ends.push(length);
+    }
+    let end = ends.pop().unwrap_or(length);
+    ends.pop().unwrap_or(0)..end
+}
+
+/// Part of a line, with the record that the whole of it found.
+fn spell_line(found: &Probe, then: Then, line: &[u8], part: Range<usize>) -> String {
+    let (letter, text) = (then.letter(), printable(&line[part.clone()]));
+    let (count, flag) = (found.listener.count, u8::from(found.listener.gathering));
+    let Range { start, end } = part;
+    format!(
+        "record {letter} {text} (bytes {start} to {end} of {}, from count {count}, flag {flag})",
+        line.len()
+    )
 }
 
 fn spell(record: Record) -> String {

@@ -1,6 +1,7 @@
 //! Counts of what the differential test reached, and what it must reach.
 
 mod checksum;
+mod listener;
 mod moves;
 mod order;
 mod sealed;
@@ -11,6 +12,7 @@ use std::collections::BTreeMap;
 use std::io::{self, Write};
 
 use self::checksum::{CARRIES_KEPT, KINDS, WRONG};
+use crate::probe::Probe;
 use crate::streams::{BESIDE_DIGITS, COMMANDS};
 use crate::{block, fixed};
 
@@ -26,12 +28,13 @@ const OF_FRAMES: [Call; 4] = [
     ('T', "take apart", &[0, 2, 3, 4, 5, 6]),
 ];
 
-const OTHERS: [Call; 5] = [
+const OTHERS: [Call; 6] = [
     ('B', "build", &[0, 2, 3]),
     ('F', "fresh", &[0, 1, 11]),
     ('H', "held parts", &[0, 1, 10]),
     ('U', "move up", &[0, 1]),
     ('D', "move down", &[0, 1]),
+    ('g', "off the line", &[0, 1, 2, 3, 4, 5, 6, 7, 8, 9, 10, 11]),
 ];
 
 /// The numbers that can come up; those between belong to wishes to come.
@@ -49,13 +52,13 @@ const SERVED: [(char, bool, &str); 4] = [
 /// A call as it came up in a run.
 pub struct Came<'a> {
     /// Its letter; d, with which no record begins, for a piece given to the desk
-    /// program.
+    /// program, and g, likewise, for a frame that is served off a line.
     pub call: char,
     /// Whether it is from a stream or script of the seed and no fixed call.
     pub drawn: bool,
     pub input: &'a [u8],
     pub number: u8,
-    /// The model's line for it.
+    /// The model's line for it; of a line given to the listener all of them.
     pub line: &'a str,
     /// If it served a frame, the reply without its last two bytes.
     pub reply: &'a [u8],
@@ -70,13 +73,15 @@ pub struct Came<'a> {
     pub room: usize,
     /// The call before it in its stream or script.
     pub before: Option<&'a Before>,
+    /// If it gave a line to the listener, the probe before that.
+    pub listening: Option<&'a Probe>,
 }
 
 /// A call's letter, its number and what it was given.
 pub type Before = (char, u8, Vec<u8>);
 
 /// Something that is counted; the first value is the call's letter, of
-/// `Switch` the command.
+/// `Switch` the command. What is counted of lines has no letter.
 #[derive(Clone, Copy, PartialEq, Eq, PartialOrd, Ord)]
 enum Thing {
     /// The number that a call gave.
@@ -111,6 +116,10 @@ enum Thing {
     Move(char, bool, moves::Kind),
     /// What is counted of lists in two orders, by whether their calls were drawn.
     Order(char, bool, order::Kind),
+    /// What is counted of lines given to the listener, by whether they were drawn.
+    Line(bool, listener::Kind),
+    /// A frame served off a line; the first value is the command.
+    OffLine(u8, listener::Served),
 }
 
 /// How often each thing that the test must reach was reached.
@@ -122,6 +131,8 @@ pub struct Coverage {
     desk_words: Vec<signatures::Words>,
     /// Lists as they come up.
     order: order::Tally,
+    /// Lines as they come up.
+    listener: listener::Tally,
 }
 
 impl Coverage {
@@ -131,6 +142,7 @@ impl Coverage {
             fixed: BTreeMap::new(),
             desk_words: Vec::new(),
             order: order::Tally::default(),
+            listener: listener::Tally::default(),
         };
         for (seen, rule) in fixed::wanted() {
             coverage.fixed.entry(seen).or_default().0.push(rule);
@@ -159,6 +171,7 @@ impl Coverage {
         self.count_signatures(came);
         self.count_moves(came);
         self.count_order(came);
+        self.count_listener(came);
         let seen = (call, input.to_vec(), line.to_string());
         if let Some((_, count)) = self.fixed.get_mut(&seen) {
             *count += 1;
@@ -223,6 +236,7 @@ impl Coverage {
             }
         }
         missing.extend(self.missing_of_order());
+        missing.extend(self.missing_of_listener());
         for ((_, _, line), (rules, count)) in &self.fixed {
             if *count < rules.len() {
                 missing.push(format!("{} with the line {line}", rules.join("; ")));
@@ -243,6 +257,7 @@ impl Coverage {
         self.print_signatures(out)?;
         self.print_moves(out)?;
         self.print_order(out)?;
+        self.print_listener(out)?;
         let fixed = self.fixed.values();
         let wanted: usize = fixed.clone().map(|(rules, _)| rules.len()).sum();
         let came: usize = fixed.map(|(rules, count)| rules.len().min(*count)).sum();
@@ -404,6 +419,7 @@ fn wanted() -> Vec<(Thing, String)> {
     wanted.extend(signatures::wanted());
     wanted.extend(moves::wanted());
     wanted.extend(order::wanted());
+    wanted.extend(listener::wanted());
     wanted
 }
 

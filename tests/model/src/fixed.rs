@@ -5,6 +5,7 @@
 
 mod buffers;
 mod checksum;
+pub mod listener;
 mod moves;
 mod order;
 mod sealed;
@@ -241,7 +242,7 @@ impl Session {
 
 /// A call as it comes up in a run: its letter (d, with which no record begins,
 /// for a piece given to the desk program), what it is given, and the line it
-/// prints.
+/// prints, or of a line given to the listener all of them.
 pub type Seen = (char, Vec<u8>, String);
 
 /// Every fixed call with the line it must print, and the rule it shows.
@@ -259,6 +260,13 @@ pub fn wanted() -> Vec<(Seen, String)> {
             for (step, line) in session.steps.iter().zip(session.desk_lines()) {
                 want('d', step, line);
             }
+        }
+    }
+    for hearing in listener::hearings() {
+        for (line, printed) in hearing.lines.iter().zip(hearing.probe_lines()) {
+            let letter = line.then.letter();
+            let rule = format!("{letter} of {}: {}", hearing.name, line.rule);
+            wanted.push(((letter, line.bytes.clone(), printed.join("\n")), rule));
         }
     }
     wanted

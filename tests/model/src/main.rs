@@ -18,6 +18,8 @@ mod desk;
 mod desk_streams;
 mod fixed;
 mod items;
+mod lines;
+mod listener;
 mod order;
 mod probe;
 mod probe_scripts;
@@ -75,7 +77,7 @@ fn pass(limit: usize, lines: fn(&[u8]) -> Vec<String>) -> io::Result<bool> {
 
 fn options(mut words: impl Iterator<Item = String>) -> Result<compare::Options, String> {
     let (mut desk, mut probe) = (None, None);
-    let (mut streams, mut seed, mut failures) = (370, 2012, usize::MAX);
+    let (mut streams, mut seed, mut failures) = (406, 2012, usize::MAX);
     let mut prefix = Vec::new();
     while let Some(word) = words.next() {
         if word == "--" {

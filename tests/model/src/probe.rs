@@ -1,10 +1,12 @@
 //! The probe program: a script of calls on buffers of any length, so that
 //! what the desk cannot show (numbers 1 and 2, images, moves from one version
-//! to the other, untouched output) is compared as well.
+//! to the other, untouched output, what a listener hands out) is compared as
+//! well.
 
 use std::mem::swap;
 
 use crate::block::{self, Refusal, Switch, IMAGE_BYTES};
+use crate::listener::Listener;
 
 pub const SCRIPT_MAX: usize = 65_536;
 
@@ -33,8 +35,37 @@ pub enum Record<'a> {
     Held(u32),
     MoveUp,
     MoveDown,
+    /// The flag and the count of the listener's record.
+    Gathering {
+        flag: bool,
+        count: u64,
+    },
+    RoomFill(u8),
+    RoomPoke {
+        offset: usize,
+        value: u8,
+    },
+    /// Bytes that the listener takes.
+    Line(Then, &'a [u8]),
     /// An unknown letter, or a record that the script's end cuts off.
     Broken,
+}
+
+/// What becomes of a frame that the listener hands out, before the next byte.
+#[derive(Clone, Copy, Debug, PartialEq, Eq)]
+pub enum Then {
+    Nothing,
+    Serve,
+}
+
+impl Then {
+    /// The letter of the records that give the listener a line.
+    pub fn letter(self) -> char {
+        match self {
+            Then::Nothing => 'N',
+            Then::Serve => 'V',
+        }
+    }
 }
 
 /// The records of a script, of which only the first 65,536 bytes are read.
@@ -97,6 +128,17 @@ impl<'a> Records<'a> {
             b'H' => Record::Held(self.number(4)? as u32),
             b'U' => Record::MoveUp,
             b'D' => Record::MoveDown,
+            b'R' => Record::Gathering {
+                flag: self.byte()? != 0,
+                count: self.number(8)? as u64,
+            },
+            b'Y' => Record::RoomFill(self.byte()?),
+            b'Q' => Record::RoomPoke {
+                offset: self.number(2)?,
+                value: self.byte()?,
+            },
+            b'N' => Record::Line(Then::Nothing, self.counted()?),
+            b'V' => Record::Line(Then::Serve, self.counted()?),
             _ => return None,
         })
     }
@@ -117,7 +159,9 @@ impl<'a> Iterator for Records<'a> {
     }
 }
 
-/// The three buffers, with the lengths that the calls see of them.
+/// The three buffers, with the lengths that the calls see of them, and the
+/// listener's record.
+#[derive(Clone)]
 pub struct Probe {
     image: Vec<u8>,
     pub image_length: usize,
@@ -125,6 +169,15 @@ pub struct Probe {
     pub second_length: usize,
     output: Vec<u8>,
     pub output_length: usize,
+    pub listener: Listener,
+}
+
+/// A frame that was served off the line, by the probe as it then is.
+pub struct Served<'a> {
+    pub probe: &'a Probe,
+    pub frame: &'a [u8],
+    pub line: &'a str,
+    pub image_before: &'a [u8],
 }
 
 impl Probe {
@@ -136,6 +189,7 @@ impl Probe {
             second_length: IMAGE_BYTES,
             output: vec![0; OUTPUT_ROOM],
             output_length: 269,
+            listener: Listener::new(),
         }
     }
 
@@ -156,18 +210,95 @@ impl Probe {
         parts.next().unwrap_or_default()
     }
 
-    /// Carries out a record and gives the line it prints, if it prints one.
-    pub fn step(&mut self, record: Record) -> Option<String> {
+    /// Carries out a record and gives the lines it prints.
+    pub fn step(&mut self, record: Record) -> Vec<String> {
+        match record {
+            Record::Line(then, line) => self.hear(then, line, |_| ()),
+            _ => self.call(record).into_iter().collect(),
+        }
+    }
+
+    /// Lets the listener take a line and gives the lines that this prints. Each
+    /// frame that is served is shown as it comes up.
+    pub fn hear(&mut self, then: Then, line: &[u8], mut show: impl FnMut(Served)) -> Vec<String> {
+        let mut lines = Vec::new();
+        for (taken, &byte) in (1..).zip(line) {
+            let Some(frame) = self.listener.take(byte).map(<[u8]>::to_vec) else {
+                continue;
+            };
+            lines.push(format!("G {taken} {} {}", frame.len(), digest(&frame)));
+            if then == Then::Serve {
+                let image_before = self.image().to_vec();
+                let line = self.serve(Switch::Unsealed, &frame);
+                show(Served {
+                    probe: self,
+                    frame: &frame,
+                    line: &line,
+                    image_before: &image_before,
+                });
+                lines.push(line);
+            }
+        }
+        let Listener {
+            room,
+            count,
+            gathering,
+        } = &self.listener;
+        let (letter, flag) = (then.letter(), u8::from(*gathering));
+        lines.push(format!("{letter} {count} {flag} {}", digest(room)));
+        lines
+    }
+
+    fn serve(&mut self, switch: Switch, frame: &[u8]) -> String {
+        let image = &mut self.image[..self.image_length];
+        let output = &mut self.output[..self.output_length];
+        let answer = spell(block::serve(switch, image, frame, output));
+        let (letter, image, output) = (serving(switch), digest(image), digest(output));
+        format!("{letter} {answer} {image} {output}")
+    }
+
+    /// Carries out a record that is no line and gives what it prints, if it
+    /// prints anything.
+    pub fn call(&mut self, record: Record) -> Option<String> {
         let image = &mut self.image[..self.image_length];
         let second = &mut self.second[..self.second_length];
         let output = &mut self.output[..self.output_length];
+        Some(match record {
+            Record::Fresh(address) => {
+                let number = number(&block::fresh(image, address));
+                format!("F {number} {}", digest(image))
+            }
+            Record::Serve(switch, frame) => self.serve(switch, frame),
+            Record::TakeApart(frame) => {
+                let answer = spell(block::take_apart(frame, output));
+                format!("T {answer} {}", digest(output))
+            }
+            Record::Build(contents) => {
+                let answer = spell(block::build(contents, output));
+                format!("B {answer} {}", digest(output))
+            }
+            Record::Held(table) => held(image, table),
+            Record::MoveUp => {
+                let number = number(&block::move_up(image, second));
+                format!("U {number} {} {}", digest(image), digest(second))
+            }
+            Record::MoveDown => {
+                let number = number(&block::move_down(image, second));
+                format!("D {number} {} {}", digest(image), digest(second))
+            }
+            Record::Broken => "?".to_string(),
+            _ => {
+                self.set(record);
+                return None;
+            }
+        })
+    }
+
+    /// Carries out a record that only changes what the calls will find.
+    fn set(&mut self, record: Record) {
         match record {
             Record::ImageLength(length) => self.image_length = length,
-            Record::Poke { offset, value } => {
-                if let Some(byte) = self.image.get_mut(offset) {
-                    *byte = value;
-                }
-            }
+            Record::Poke { offset, value } => poke(&mut self.image, offset, value),
             Record::Fill(value) => self.image.fill(value),
             Record::Exchange => {
                 swap(&mut self.image, &mut self.second);
@@ -177,35 +308,21 @@ impl Probe {
                 self.output_length = length;
                 self.output.fill(fill);
             }
-            Record::Fresh(address) => {
-                let number = number(&block::fresh(image, address));
-                return Some(format!("F {number} {}", digest(image)));
+            Record::Gathering { flag, count } => {
+                self.listener.gathering = flag;
+                self.listener.count = count;
             }
-            Record::Serve(switch, frame) => {
-                let answer = spell(block::serve(switch, image, frame, output));
-                let (letter, image, output) = (serving(switch), digest(image), digest(output));
-                return Some(format!("{letter} {answer} {image} {output}"));
-            }
-            Record::TakeApart(frame) => {
-                let answer = spell(block::take_apart(frame, output));
-                return Some(format!("T {answer} {}", digest(output)));
-            }
-            Record::Build(contents) => {
-                let answer = spell(block::build(contents, output));
-                return Some(format!("B {answer} {}", digest(output)));
-            }
-            Record::Held(table) => return Some(held(image, table)),
-            Record::MoveUp => {
-                let number = number(&block::move_up(image, second));
-                return Some(format!("U {number} {} {}", digest(image), digest(second)));
-            }
-            Record::MoveDown => {
-                let number = number(&block::move_down(image, second));
-                return Some(format!("D {number} {} {}", digest(image), digest(second)));
-            }
-            Record::Broken => return Some("?".to_string()),
+            Record::RoomFill(value) => self.listener.room.fill(value),
+            Record::RoomPoke { offset, value } => poke(&mut self.listener.room, offset, value),
+            _ => {}
         }
-        None
+    }
+}
+
+/// Changes the byte at this offset, if there is one.
+fn poke(bytes: &mut [u8], offset: usize, value: u8) {
+    if let Some(byte) = bytes.get_mut(offset) {
+        *byte = value;
     }
 }
 
@@ -221,7 +338,7 @@ pub fn serving(switch: Switch) -> char {
 pub fn lines(script: &[u8]) -> Vec<String> {
     let mut probe = Probe::new();
     Records::new(script)
-        .filter_map(|record| probe.step(record))
+        .flat_map(|record| probe.step(record))
         .collect()
 }
 

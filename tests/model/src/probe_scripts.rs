@@ -1,9 +1,12 @@
 //! Scripts for the probe program: first those with a purpose of their own,
-//! then the fixed calls, then broken records, then calls by chance.
+//! then the fixed calls and the fixed lines, then broken records, then calls by
+//! chance.
 
+mod listener;
 mod moves;
 mod order;
 
+use crate::fixed::listener::{hearings, Hearing};
 use crate::fixed::{self, Change, Session, FILL};
 use crate::items::{self, Item, ITEMS};
 use crate::probe::SCRIPT_MAX;
@@ -21,7 +24,7 @@ const TABLES: usize = 1225;
 
 type Case = (&'static str, fn(&mut Rng) -> Script);
 
-const CASES: [Case; 36] = [
+const CASES: [Case; 45] = [
     ("empty", |_| Script::default()),
     // These stand early, so that faults planted in them are found soon.
     ("moves", moves::done),
@@ -29,6 +32,15 @@ const CASES: [Case; 36] = [
     ("repeats in two orders", order::repeats),
     ("sealed lists in three orders", order::sealed),
     ("lists out of order", order::not_kept),
+    ("listener, first lines", listener::first_lines),
+    ("listener, noise of every kind", listener::noisy),
+    ("listener, more noise of every kind", listener::noisy),
+    ("listener, one long line", listener::one_long_line),
+    ("listener, any record", listener::any_record),
+    ("listener, long runs", listener::long_runs),
+    ("listener, served in noise without 3Ah", listener::served),
+    ("listener, served in any noise", listener::served_in_any),
+    ("listener, among other calls", listener::among_others),
     ("rows at other addresses", other_addresses),
     ("fresh images", fresh_images),
     ("image lengths", image_lengths),
@@ -60,9 +72,6 @@ const CASES: [Case; 36] = [
     ("longer lists in two orders", order::longer),
     ("lists without a clash", order::apart),
 ];
-
-/// How many scripts `broken` has.
-const BROKEN: usize = 29;
 
 /// A script under construction.
 #[derive(Default)]
@@ -151,12 +160,12 @@ impl Script {
 
 /// How many scripts have a purpose of their own.
 pub fn purposeful() -> usize {
-    CASES.len() + fixed::sessions().len() + BROKEN
+    CASES.len() + fixed::sessions().len() + hearings().len() + BROKEN
 }
 
-/// Whether the script of that number is one of fixed calls.
+/// Whether the script of that number is one of fixed calls or of fixed lines.
 pub fn is_fixed(number: usize) -> bool {
-    (CASES.len()..CASES.len() + fixed::sessions().len()).contains(&number)
+    (CASES.len()..purposeful() - BROKEN).contains(&number)
 }
 
 /// A script and what it is for.
@@ -170,7 +179,11 @@ pub fn script(seed: u64, number: usize) -> (String, Vec<u8>) {
     if let Some(session) = sessions.get(number) {
         return (session.name.to_string(), fixed_calls(session));
     }
-    match broken(number - sessions.len()) {
+    let number = number - sessions.len();
+    if let Some(hearing) = hearings().get(number) {
+        return (hearing.name.to_string(), fixed_lines(hearing));
+    }
+    match broken(number - hearings().len()) {
         Some(script) => ("broken record".to_string(), script.0),
         None => ("calls by chance".to_string(), by_chance(&mut rng).0),
     }
@@ -199,6 +212,23 @@ pub fn fixed_calls(session: &Session) -> Vec<u8> {
             'F' | 'H' | 'U' | 'D' => script.given(step.letter as u8, &step.input),
             letter => script.counted(letter as u8, &step.input),
         };
+    }
+    script.0
+}
+
+/// Fixed lines, with an output for them all.
+pub fn fixed_lines(hearing: &Hearing) -> Vec<u8> {
+    let mut script = Script::default();
+    script.fresh(1).output(269, FILL);
+    for line in &hearing.lines {
+        if let Some(set) = &line.set {
+            script.gathering(u8::from(set.gathering), set.count);
+            script.room_fill(set.fill);
+            for &(offset, value) in &set.bytes {
+                script.room_poke(offset, value);
+            }
+        }
+        script.hear(line.then, &line.bytes);
     }
     script.0
 }
@@ -808,40 +838,59 @@ fn records_past_end(_: &mut Rng) -> Script {
     script
 }
 
-/// Each kind of record that goes on behind its letter, as a letter alone, then
-/// one byte short, then letters that begin no record.
+/// Each kind of record that goes on behind its letter.
+const WHOLE: [&[u8]; 15] = [
+    b"L\x00\x5D\x09",
+    b"P\x00\x00\x06\x01",
+    b"W\x01",
+    b"O\x01\x0D\x01",
+    b"F\x01",
+    b"S\x00\x09:0132CD\r\n",
+    b"K\x00\x09:0132CD\r\n",
+    b"T\x00\x09:0132CD\r\n",
+    b"B\x00\x02\x01\x32",
+    b"H\x00\x00\x00\x01",
+    b"R\x01\x00\x00\x00\x00\x00\x00\x00\x00",
+    b"Y\x01",
+    b"Q\x00\x00\x01",
+    // One byte short these have a whole frame in them.
+    b"N\x00\x0A:0132CD\r\n:",
+    b"V\x00\x0A:0132CD\r\n:",
+];
+
+/// Letters that begin no record.
+const UNKNOWN: [&[u8]; 14] = [
+    b"?",
+    b"s\x00\x00",
+    b"k\x00\x00",
+    b"u",
+    b"d",
+    b"x",
+    b"w\x00",
+    b"n\x00\x00",
+    b"v\x00\x00",
+    b"y\x00",
+    b"r\x00\x00\x00\x00\x00\x00\x00\x00\x00",
+    b"G\x00\x00",
+    b"\x00",
+    b"\xFF\n",
+];
+
+/// How many scripts `broken` has.
+const BROKEN: usize = 2 * WHOLE.len() + UNKNOWN.len();
+
+/// Each kind of record as a letter alone, then one byte short, then letters that
+/// begin no record.
 fn broken(number: usize) -> Option<Script> {
-    let records: [&[u8]; 10] = [
-        b"L\x00\x5D\x09",
-        b"P\x00\x00\x06\x01",
-        b"W\x01",
-        b"O\x01\x0D\x01",
-        b"F\x01",
-        b"S\x00\x09:0132CD\r\n",
-        b"K\x00\x09:0132CD\r\n",
-        b"T\x00\x09:0132CD\r\n",
-        b"B\x00\x02\x01\x32",
-        b"H\x00\x00\x00\x01",
-    ];
-    let unknown: [&[u8]; 9] = [
-        b"?",
-        b"s\x00\x00",
-        b"k\x00\x00",
-        b"u",
-        b"d",
-        b"x",
-        b"w\x00",
-        b"\x00",
-        b"\xFF\n",
-    ];
-    let end = match number {
-        0..=9 => &records[number][..1],
-        10..=19 => &records[number - 10][..records[number - 10].len() - 1],
-        _ => unknown.get(number - 20).copied()?,
+    let place = number % WHOLE.len();
+    let end = match number / WHOLE.len() {
+        0 => &WHOLE[place][..1],
+        1 => &WHOLE[place][..WHOLE[place].len() - 1],
+        _ => UNKNOWN.get(number - 2 * WHOLE.len()).copied()?,
     };
     let mut script = Script::default();
     script.fresh(1).serve(b":0132CD\r\n").0.extend(end);
-    if number >= 20 {
+    if number >= 2 * WHOLE.len() {
         script.held(1); // must not be reached
     }
     Some(script)
@@ -870,6 +919,7 @@ fn by_chance(rng: &mut Rng) -> Script {
             1 => script.held(rng.below(22) as u32 + rng.pick(&[0, 0, 0, 256])),
             2 => other_call(&mut script, rng),
             3 => unusable_for_a_while(&mut script, rng, address),
+            4 => listener::off_the_line(&mut script, rng, address),
             _ => serve_session(&mut script, rng, address),
         };
         if rng.percent(60) {

@@ -1,5 +1,6 @@
 //! The rows and rules the block is held to, one by one.
 
+mod listener;
 mod moves;
 mod order;
 mod signatures;
