@@ -18,7 +18,7 @@ use Rattle.laws.proofs.Tests.{and-both}
 use Rattle.listener.specs.declared.Listener.{Listener}
 use Rattle.listener.specs.declared.Listened.{Listened}
 use Rattle.listener.specs.Listening.{endsFrame, listened}
-use Rattle.listener.specs.Handing.{Idle, gathered, handed, endAt}
+use Rattle.listener.specs.Handing.{Waits, gathered, handed, endAt}
 use Rattle.listener.proofs.Steps.{starts-afresh, passes-by, drops-at-269, gathers-one}
 use Rattle.listener.proofs.Shapes.{length-more}
 
@@ -35,15 +35,15 @@ unfolding gathered slice
 holds-most g t l h = omega (arith, length-take (l .count) (l .room), ap length (h .bytes))
 
 -- who holds without gathering waits
-pub holds-idle : (g : List ℕ) (l : Listener) → Holds g false l → Idle l
-holds-idle g l h = rw (h .flag)
+pub holds-waits : (g : List ℕ) (l : Listener) → Holds g false l → Waits l
+holds-waits g l h = rw (h .flag)
 
 -- every record waits, or gathers what it holds
-pub idle-or-holds : (l : Listener) → length (l .room) ≡ 269 → Idle l ⊎ Holds (gathered l) true l
+pub waits-or-holds : (l : Listener) → length (l .room) ≡ 269 → Waits l ⊎ Holds (gathered l) true l
 unfolding gathered
-idle-or-holds l room = by (l .gathering && leb (l .count) 269) refl
+waits-or-holds l room = by (l .gathering && leb (l .count) 269) refl
   where
-    by : (t : Bool) → (l .gathering && leb (l .count) 269) ≡ t → Idle l ⊎ Holds (gathered l) true l
+    by : (t : Bool) → (l .gathering && leb (l .count) 269) ≡ t → Waits l ⊎ Holds (gathered l) true l
     by false e = inl e
     by true e =
         let p = and-both (l .gathering) (leb (l .count) 269) e in
@@ -82,7 +82,7 @@ pub data After (g : List ℕ) (b : ℕ) (r : Listened) : Type 0 where
   ends : length g < 269 → endAt (g ++ (b ∷ [])) (length g - 1) ≡ true → handed r ≡ some (g ++ (b ∷ [])) → Holds (g ++ (b ∷ [])) false (r .listener)
       → After g b r
   goes-on : length g < 269 → endAt (g ++ (b ∷ [])) (length g - 1) ≡ false → handed r ≡ none → Holds (g ++ (b ∷ [])) true (r .listener) → After g b r
-  drops : length g ≡ 269 → handed r ≡ none → Idle (r .listener) → After g b r
+  drops : length g ≡ 269 → handed r ≡ none → Waits (r .listener) → After g b r
 
 module _ (g : List ℕ) (l : Listener) (h : Holds g true l) (b : ℕ) (other : b ≢ 58) where
   taken : take (length g) (l .room) ≡ g
@@ -123,6 +123,6 @@ module _ (g : List ℕ) (l : Listener) (h : Holds g true l) (b : ℕ) (other : b
           rw (drops-at-269 l b other (h .flag) (h .counts ∙ full)) (drops full refl refl)
 
 -- who lets a byte pass hands nothing out and stays
-pub idle-stays : (l : Listener) → Idle l → (b : ℕ) → b ≢ 58 → (handed (listened l b) ≡ none) × (listened l b .listener ≡ l)
+pub waits-stays : (l : Listener) → Waits l → (b : ℕ) → b ≢ 58 → (handed (listened l b) ≡ none) × (listened l b .listener ≡ l)
 unfolding handed
-idle-stays l idle b other = rw (passes-by l b other idle) (refl, refl)
+waits-stays l idle b other = rw (passes-by l b other idle) (refl, refl)

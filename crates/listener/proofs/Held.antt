@@ -11,25 +11,25 @@ use Rattle.reorder.specs.Reorder.{outcomes}
 use Rattle.listener.specs.declared.Listener.{Listener}
 use Rattle.listener.specs.declared.Listened.{Listened}
 use Rattle.listener.specs.Listening.{listened}
-use Rattle.listener.specs.Handing.{Idle, gathered, handed, hears}
+use Rattle.listener.specs.Handing.{Waits, gathered, handed, takes}
 use Rattle.listener.proofs.Shapes.{neither, among-append, not-first}
-use Rattle.listener.proofs.Gathering.{Holds, holds-idle, idle-or-holds, After, ends, goes-on, drops, after, idle-stays}
+use Rattle.listener.proofs.Gathering.{Holds, holds-waits, waits-or-holds, After, ends, goes-on, drops, after, waits-stays}
 use Rattle.listener.proofs.Along.{told-at}
 
 -- it gathers g, or waits
 abbrev Keeps : List ℕ → Listener → Type 0
-Keeps g l = Idle l ⊎ Holds g true l
+Keeps g l = Waits l ⊎ Holds g true l
 
 -- what a byte did, g being all that may then be held
 abbrev Did : List ℕ → Listened → Type 0
 Did g r = ((f : List ℕ) → handed r ≡ some f → f ≡ g) × Keeps g (r .listener)
 
 next : (g : List ℕ) (l : Listener) (b : ℕ) → b ≢ 58 → Keeps g l → Did (g ++ (b ∷ [])) (listened l b)
-next g l b other (inl idle) = let e = idle-stays l idle b other in rw (e .0, e .1) (λ f n. absurd (Option·none-ne-some f n), inl idle)
+next g l b other (inl idle) = let e = waits-stays l idle b other in rw (e .0, e .1) (λ f n. absurd (Option·none-ne-some f n), inl idle)
 next g l b other (inr h) = by (after g l h b other)
   where
     by : After g b (listened l b) → Did (g ++ (b ∷ [])) (listened l b)
-    by (ends low e o k) = (λ f n. Option·some-injective f (g ++ (b ∷ [])) (sym n ∙ o), inl (holds-idle (g ++ (b ∷ [])) (listened l b .listener) k))
+    by (ends low e o k) = (λ f n. Option·some-injective f (g ++ (b ∷ [])) (sym n ∙ o), inl (holds-waits (g ++ (b ∷ [])) (listened l b .listener) k))
     by (goes-on low e o k) = (λ f n. absurd (Option·none-ne-some f (sym o ∙ n)), inr k)
     by (drops full o idle) = (λ f n. absurd (Option·none-ne-some f (sym o ∙ n)), inl idle)
 
@@ -42,7 +42,7 @@ module _ (l : Listener) (room : length (l .room) ≡ 269) where
   abbrev Told : List ℕ → Option (List ℕ) → Type 0
   Told p o = among 58 p ≡ false → (f : List ℕ) → o ≡ some f → f ≡ gathered l ++ p
 
-  each : (p : List ℕ) (m : Listener) (b : ℕ) → Came p m → Told (p ++ (b ∷ [])) (hears m b .0) × Came (p ++ (b ∷ [])) (hears m b .1)
+  each : (p : List ℕ) (m : Listener) (b : ℕ) → Came p m → Told (p ++ (b ∷ [])) (takes m b .0) × Came (p ++ (b ∷ [])) (takes m b .1)
   each p m b i = (λ n. by n .0, λ n. by n .1)
     where
       by : among 58 (p ++ (b ∷ [])) ≡ false → Did (gathered l ++ (p ++ (b ∷ []))) (listened m b)
@@ -50,7 +50,7 @@ module _ (l : Listener) (room : length (l .room) ≡ 269) where
           let t = neither (among 58 p) (among 58 (b ∷ [])) (sym (among-append 58 p (b ∷ [])) ∙ n) in
           rw (← append-assoc) (next (gathered l ++ p) m b (not-first 58 b [] (t .1) .0) (i (t .0)))
 
-  -- what is handed out is what the record held and all that came
-  pub handed-held : (s : List ℕ) (k : ℕ) → k < length s → among 58 (take (k + 1) s) ≡ false → (f : List ℕ) → getD (outcomes hears l s) k none ≡ some f
+  -- what is handed out before any 3Ah is what the record held and all that came
+  pub handed-held : (s : List ℕ) (k : ℕ) → k < length s → among 58 (take (k + 1) s) ≡ false → (f : List ℕ) → getD (outcomes takes l s) k none ≡ some f
       → f ≡ gathered l ++ take (k + 1) s
-  handed-held s k h = told-at hears Came Told each none s [] l (λ n. rw append-nil (idle-or-holds l room)) k h
+  handed-held s k h = told-at takes Came Told each none s [] l (λ n. rw append-nil (waits-or-holds l room)) k h

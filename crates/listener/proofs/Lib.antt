@@ -7,6 +7,7 @@ pub mod Shapes
 pub mod Gathering
 pub mod Handing
 pub mod Held
+pub mod Waiting
 pub mod Calls
 pub mod WellFormed
 pub mod Replies

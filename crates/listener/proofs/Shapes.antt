@@ -57,6 +57,12 @@ since-on (b ∷ p) q h n = go (among 58 p) refl h (λ e. since-on p q e n)
     go true e h ih = rw (among-append 58 p q, e) (ih e)
     go false e h ih = rw (among-append 58 p q, e, n, eq-eqb b 58 (sym (eqb-true 58 b (rw or-false at h))))
 
+-- where there was none, there are none since
+pub since-none : (s : List ℕ) → among 58 s ≡ false → since s ≡ []
+unfolding since
+since-none [] n = refl
+since-none (b ∷ s) n = let p = not-first 58 b s n in rw (p .1, ne-eqb b 58 (p .0))
+
 -- ---- a well-formed frame
 
 -- 0Dh 0Ah is where it was, whatever follows

@@ -1,55 +1,76 @@
 -- The listener's rules in the document's words, for any record: each is what the tests of a step come to. Assumes nothing.
-use mathlib.Core.Path.{_≡_, refl}
+use mathlib.Core.Path.{_≡_, refl, ap, _∙_}
 use mathlib.Core.Logic.{_≢_}
 use mathlib.Core.List.{[], _∷_}
-use mathlib.Core.Bool.{Bool, true, false, not, cond}
+use mathlib.Core.Bool.{Bool, true, false, not, cond, _&&_, and-false}
 use Prim.Native.Nat.{ℕ, _+_, _-_, _≤_, _<_}
+use native.Mathlib.Decide.{ℕ-discrete}
 use native.Mathlib.Omega.{arith}
 use lib.ListN.{length, getD}
+use lib.Dec.{leb, eqb}
+use borrow.Author.Tests.{lt-leb, ne-eqb}
 use Rattle.laws.specs.Bytes.{lay}
 use Rattle.laws.proofs.Bytes.{length-lay, lay-out}
+use Rattle.laws.proofs.Tests.{never}
 use Rattle.listener.specs.declared.Listener.{Listener}
 use Rattle.listener.specs.declared.step.Step.{Step}
-use Rattle.listener.specs.Listening.{endsFrame, stepOf, beforeAt, stepped, listened}
-use Rattle.listener.specs.Handing.{Idle}
-use Rattle.listener.proofs.Cases.{not-gathering, is-full, has-room, by-line-feed, before-is, stores-inside}
+use Rattle.listener.specs.Listening.{starts, passes, drops, gathers, endsFrame, stepOf, beforeAt, stepped, listened}
+use Rattle.listener.specs.Handing.{Waits}
+use Rattle.listener.proofs.Cases.{not-gathering, is-full, has-room, none-before, no-return, by-line-feed, before-is, stores-inside}
 
 -- ---- a byte, by the rule that it falls under
 
 module _ (l : Listener) where
   -- 3Ah always starts afresh
-  pub starts-afresh : listened l 58 ≡ record { listener = record { room = lay (l .room) 0 (58 ∷ []); count = 1; gathering = true }; frame = false }
+  pub starts-afresh : listened l 58 ≡ record { listener = record { room = lay (l .room) 0 (58 ∷ []); count = 1; gathering = true }; there = false }
   unfolding listened stepped stepOf
   starts-afresh = refl
 
   module _ (b : ℕ) (other : b ≢ 58) where
     -- who is not gathering, and a count above 269 is not, lets it pass
-    pub passes-by : Idle l → listened l b ≡ record { listener = l; frame = false }
+    pub passes-by : Waits l → listened l b ≡ record { listener = l; there = false }
     unfolding listened stepped
     passes-by idle = rw (not-gathering _ (l .count) (l .gathering) b other idle)
 
     -- the 270th byte drops what was gathered
     pub drops-at-269 : l .gathering ≡ true → l .count ≡ 269
-        → listened l b ≡ record { listener = record { room = l .room; count = 0; gathering = false }; frame = false }
+        → listened l b ≡ record { listener = record { room = l .room; count = 0; gathering = false }; there = false }
     unfolding listened stepped
     drops-at-269 g full = rw (is-full _ (l .count) (l .gathering) b other g full)
 
     -- any other is gathered, t saying whether it ends the frame
     module _ (g : l .gathering ≡ true) (low : l .count < 269) where
       pub gathers-one : (t : Bool) → endsFrame (getD (l .room) (l .count - 1) 0) (l .count) b ≡ t
-          → listened l b ≡ record { listener = record { room = lay (l .room) (l .count) (b ∷ []); count = l .count + 1; gathering = not t }; frame = t }
+          → listened l b ≡ record { listener = record { room = lay (l .room) (l .count) (b ∷ []); count = l .count + 1; gathering = not t }; there = t }
       unfolding listened stepped
       gathers-one t ends =
           let back : l .count + 1 - 1 ≡ l .count = omega arith in
           rw (before-is (l .count) (omega arith), has-room _ (l .count) (l .gathering) b t other g low ends, back)
 
-      pub gathers-on : endsFrame (getD (l .room) (l .count - 1) 0) (l .count) b ≡ false
-          → listened l b ≡ record { listener = record { room = lay (l .room) (l .count) (b ∷ []); count = l .count + 1; gathering = true }; frame = false }
-      gathers-on = gathers-one false
+      -- unless it is 0Ah right after 0Dh, it goes on
+      pub goes-on : (0 < l .count → getD (l .room) (l .count - 1) 0 ≡ 13 → b ≢ 10)
+          → listened l b ≡ record { listener = record { room = lay (l .room) (l .count) (b ∷ []); count = l .count + 1; gathering = true }; there = false }
+      goes-on no-end = gathers-one false (by (ℕ-discrete (l .count) 0) (ℕ-discrete (getD (l .room) (l .count - 1) 0) 13))
+        where
+          by : Dec (l .count ≡ 0) → Dec (getD (l .room) (l .count - 1) 0 ≡ 13) → endsFrame (getD (l .room) (l .count - 1) 0) (l .count) b ≡ false
+          by (yes z) d = none-before _ (l .count) b z
+          by (no z) (no n) = no-return _ (l .count) b n
+          by (no z) (yes e) = by-line-feed _ (l .count) b (omega arith) e ∙ ne-eqb b 10 (no-end (omega arith) e)
+
+    -- the first byte of a gathering record has none before it, whatever stands in the room
+    pub takes-first : l .gathering ≡ true → l .count ≡ 0
+        → listened l b ≡ record { listener = record { room = lay (l .room) 0 (b ∷ []); count = 1; gathering = true }; there = false }
+    takes-first g z =
+        goes-on g (omega arith) (λ some. absurd (omega arith))
+        ∙ ap (λ n. record { listener = record { room = lay (l .room) n (b ∷ []); count = n + 1; gathering = true }; there = false }) z
+
+    -- no room has so many
+    pub over-full-stays : 269 < l .count → listened l b ≡ record { listener = l; there = false }
+    over-full-stays h = passes-by (rw (lt-leb (l .count) 269 h, and-false))
 
   -- 0Ah right after 0Dh
   pub ends-the-frame : l .gathering ≡ true → 0 < l .count → l .count < 269 → getD (l .room) (l .count - 1) 0 ≡ 13
-      → listened l 10 ≡ record { listener = record { room = lay (l .room) (l .count) (10 ∷ []); count = l .count + 1; gathering = false }; frame = true }
+      → listened l 10 ≡ record { listener = record { room = lay (l .room) (l .count) (10 ∷ []); count = l .count + 1; gathering = false }; there = true }
   ends-the-frame g some low cr = gathers-one 10 (omega arith) g low true (by-line-feed _ (l .count) 10 some cr)
 
 -- ---- what a step leaves
@@ -58,6 +79,15 @@ module _ (l : Listener) where
 pub first-unjudged : (x y : ℕ) (g : Bool) (b : ℕ) → stepOf x 0 g b ≡ stepOf y 0 g b
 unfolding stepOf endsFrame
 first-unjudged x y g b = refl
+
+-- a frame that is there has its bytes in the room: by what the three tests said
+stored-there : (colon takes full : Bool) (count : ℕ) (g ends : Bool)
+    → cond colon starts (cond takes (cond full drops (gathers count ends)) (passes count g)) .there ≡ true
+    → cond colon starts (cond takes (cond full drops (gathers count ends)) (passes count g)) .stores ≡ true
+stored-there true takes full count g ends e = refl
+stored-there false true true count g ends e = absurd (never e)
+stored-there false true false count g ends e = refl
+stored-there false false full count g ends e = absurd (never e)
 
 module _ (l : Listener) (b : ℕ) where
   -- the step that is taken
@@ -80,3 +110,10 @@ module _ (l : Listener) (b : ℕ) where
       go : (t : Bool) → (t ≡ true → 1 ≤ now .count) → getD (cond t (lay (l .room) (now .count - 1) (b ∷ [])) (l .room)) i 0 ≡ getD (l .room) i 0
       go true some = let low = some refl in lay-out (l .room) (now .count - 1) (b ∷ []) i (λ p. omega arith)
       go false some = refl
+
+  -- where a frame is there, as many bytes count as the room can have
+  pub there-inside : listened l b .there ≡ true → (1 ≤ listened l b .listener .count) × (listened l b .listener .count ≤ 269)
+  unfolding listened stepped stepOf
+  there-inside e =
+      stores-inside _ (l .count) (l .gathering) b (stored-there (eqb b 58) (l .gathering && leb (l .count) 269) (eqb (l .count) 269) (l .count) (l .gathering)
+      (endsFrame (getD (l .room) (beforeAt (l .count)) 0) (l .count) b) e)

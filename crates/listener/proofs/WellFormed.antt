@@ -4,7 +4,7 @@ use mathlib.Core.Path.{_≡_, refl, sym, _∙_}
 use mathlib.Core.Logic.{_≢_}
 use mathlib.Core.List.{List, [], _∷_}
 use mathlib.Core.Bool.{true, false, not, and-false}
-use Prim.Native.Nat.{ℕ, suc, _+_, _-_, _<_}
+use Prim.Native.Nat.{ℕ, suc, _+_, _-_, _<_, _≤_}
 use native.Mathlib.Decide.{decLt, ℕ-discrete}
 use native.Mathlib.Omega.{arith}
 use lib.ListN.{length, getD, drop, length-drop}
@@ -22,12 +22,15 @@ use Rattle.frame.proofs.Answers.{ends-are}
 use Rattle.frame.proofs.Passing.{passed-length, passed-ends, passed-digits, taken-0}
 use Rattle.frame.proofs.RoundTrip.{build-then-take-apart}
 use Rattle.listener.specs.Handing.{endAt, wellFormed}
-use Rattle.listener.proofs.Shapes.{well-is}
+use Rattle.listener.proofs.Shapes.{well-is, frame-is}
 
--- three bytes are the shortest that there can be
-pub shortest : wellFormed (58 ∷ (13 ∷ (10 ∷ []))) ≡ true
+-- 3Ah 0Dh 0Ah is a well-formed frame, and none has fewer bytes
+abbrev pub short : List ℕ
+short = 58 ∷ (13 ∷ (10 ∷ []))
+
+pub shortest : (wellFormed short ≡ true) × ((f : List ℕ) → wellFormed f ≡ true → length short ≤ length f)
 unfolding wellFormed endAt among every
-shortest = refl
+shortest = (refl, λ f w. frame-is f w .low)
 
 -- ---- what passes the checks
 

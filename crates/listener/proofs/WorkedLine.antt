@@ -24,13 +24,13 @@ use Rattle.izk.specs.Heard.{heard, answered}
 use Rattle.izk.specs.Block.{served}
 use Rattle.izk.specs.Frames.{ended}
 use Rattle.listener.specs.Listening.{endsFrame, stepOf, beforeAt, stepped, listened, idle}
-use Rattle.listener.specs.Handing.{gathered, handed, hears, endAt, wellFormed}
+use Rattle.listener.specs.Handing.{gathered, handed, takes, endAt, wellFormed}
 use Rattle.listener.specs.Line.{line, framesOf, Clean, answersOn, leftOn, Panel, serves}
 use Rattle.listener.specs.WorkedLine.{noisy, spaced, stretches, keyTurned, started}
 use Rattle.listener.proofs.Line.{line-served-idle}
 
 -- of its 36 bytes the 12th and the 34th hand a frame out; the start that was cut off is no part of the second
-pub worked-handed : outcomes hears idle noisy
+pub worked-handed : outcomes takes idle noisy
     ≡ replicate 11 none ++ (some (ended ":0132CD") ∷ (replicate 21 none ++ (some (ended ":01330FBD") ∷ (none ∷ (none ∷ [])))))
 unfolding noisy idle listened stepped beforeAt stepOf endsFrame gathered handed within slice lay zeros codes ended
 worked-handed = refl
@@ -61,23 +61,24 @@ unfolding among codes
 no-colon = refl
 
 -- what the frames alone are answered, and the panel that they leave
-pub alone : List BuffersAfter
-alone = outcomes (serves keyTurned) started (framesOf stretches)
+pub answers-alone : List BuffersAfter
+answers-alone = outcomes (serves keyTurned) started (framesOf stretches)
 
-pub left : Panel
-left = final (serves keyTurned) started (framesOf stretches)
+pub left-alone : Panel
+left-alone = final (serves keyTurned) started (framesOf stretches)
 
 -- so by the theorem it is with the line
-pub spaced-served : (answersOn (serves keyTurned) idle started spaced ≡ alone) × (leftOn (serves keyTurned) idle started spaced ≡ left)
-unfolding alone left
+pub spaced-served : (answersOn (serves keyTurned) idle started spaced ≡ answers-alone) × (leftOn (serves keyTurned) idle started spaced ≡ left-alone)
+unfolding answers-alone left-alone
 spaced-served = rw spaced-is (line-served-idle keyTurned started (codes "7F0") no-colon stretches spaced-clean)
 
 -- the image that one leaves is the one that the next finds, and the key is turned between the second and the third; in the end four are counted, offset 6
 -- has the mask, and the one output has the last reply
-pub alone-served : (map (λ a. a .number) alone ≡ 0 ∷ (0 ∷ (16 ∷ (0 ∷ []))))
-    × ((map replyIn alone ≡ ended ":01330FBD" ∷ (ended ":01320FBE" ∷ ([] ∷ (ended ":01320FBE" ∷ []))))
-    × ((left .turn ≡ 4) × ((getD (left .image) 6 0 ≡ 15) × (slice 0 11 (left .out) ≡ ended ":01320FBE"))))
-unfolding alone left stretches keyTurned started ended served answered heard recognised sought lets tried stored ruleOf commands markOk addressOk countOk
+pub alone-served : (map (λ a. a .number) answers-alone ≡ 0 ∷ (0 ∷ (16 ∷ (0 ∷ []))))
+    × ((map replyIn answers-alone ≡ ended ":01330FBD" ∷ (ended ":0133F0DC" ∷ ([] ∷ (ended ":0132F0DD" ∷ []))))
+    × ((left-alone .turn ≡ 4) × ((getD (left-alone .image) 6 0 ≡ 240) × (slice 0 11 (left-alone .out) ≡ ended ":0132F0DD"))))
+unfolding answers-alone left-alone stretches keyTurned started ended served answered heard recognised sought lets tried stored ruleOf commands markOk
+    addressOk countOk
     tableWord wordOk usable fresh lengthOk endsOk inner bodyOf contentsOf sumOk frameChecks frameOf isDigit valueOf charOf charsOf bytesOf checksumOf judged
     within every all among slice lay zeros padded sumOf wordAt codes
 alone-served = (refl, (refl, (refl, (refl, refl))))

@@ -5,16 +5,11 @@ use mathlib.Core.Option.{Option}
 use mathlib.Core.Bool.{Bool}
 use Prim.Native.Nat.{ℕ}
 use Rattle.listener.specs.declared.Listener.{Listener}
-use Rattle.listener.specs.declared.Listened.{Listened}
-use Rattle.listener.specs.Listening.{listened}
+use Rattle.listener.specs.Listening.{both, listened}
 use Rattle.listener.specs.Handing.{handed}
-
--- what a call returned, and the record that it left
-abbrev pub left : Listener → Bool → Listened
-left k r = record { listener = k; frame = r }
 
 -- for each of the calls nothing, or what the record that it left holds, where it returned true; and the record that the last one left
 pub data Took : Listener → List ℕ → List (Option (List ℕ)) → Listener → Type 0 where
   no-call : (l : Listener) → Took l [] [] l
   a-call : (l : Listener) (byte : ℕ) (bytes : List ℕ) (k : Listener) (r : Bool) (rest : List (Option (List ℕ))) (m : Listener)
-      → left k r ≡ listened l byte → Took k bytes rest m → Took l (byte ∷ bytes) (handed (left k r) ∷ rest) m
+      → both k r ≡ listened l byte → Took k bytes rest m → Took l (byte ∷ bytes) (handed (both k r) ∷ rest) m

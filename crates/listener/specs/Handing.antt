@@ -14,9 +14,9 @@ use Rattle.listener.specs.Listening.{listened}
 
 -- ---- byte after byte
 
--- it is not gathering, as a count above 269 is not either: it lets all pass but 3Ah
-abbrev pub Idle : Listener → Type 0
-Idle l = (l .gathering && leb (l .count) 269) ≡ false
+-- it waits for a 3Ah, and lets all else pass: it is not gathering, or its count is above 269
+abbrev pub Waits : Listener → Type 0
+Waits l = (l .gathering && leb (l .count) 269) ≡ false
 
 -- the bytes that a record has gathered
 unfoldable pub gathered : Listener → List ℕ
@@ -24,11 +24,11 @@ gathered l = slice 0 (l .count) (l .room)
 
 -- what is there after a byte: nothing, or the frame that it ended, as gathered
 unfoldable pub handed : Listened → Option (List ℕ)
-handed h = cond (h .frame) (some (gathered (h .listener))) none
+handed h = cond (h .there) (some (gathered (h .listener))) none
 
 -- one byte, as a step of those that `reorder` takes one after the other: what it hands out, and the record that the next byte finds
-abbrev pub hears : Listener → ℕ → Option (List ℕ) × Listener
-hears l byte = (handed (listened l byte), listened l byte .listener)
+abbrev pub takes : Listener → ℕ → Option (List ℕ) × Listener
+takes l byte = (handed (listened l byte), listened l byte .listener)
 
 -- ---- the frames that are to be found
 

@@ -11,7 +11,7 @@ use Rattle.command.specs.Reply.{BuffersAfter}
 use Rattle.izk.specs.Heard.{heard}
 use Rattle.izk.specs.Block.{served}
 use Rattle.listener.specs.declared.Listener.{Listener}
-use Rattle.listener.specs.Handing.{hears, wellFormed}
+use Rattle.listener.specs.Handing.{takes, wellFormed}
 
 -- ---- the line
 
@@ -49,16 +49,16 @@ module _ {S O : Type 0} (step : S → List ℕ → O × S) where
   -- the outcomes over the bytes of a line, in their order
   unfoldable pub answersOn : Listener → S → List ℕ → List O
   answersOn l s [] = []
-  answersOn l s (b ∷ bs) = dealt s (hears l b .0) .0 ++ answersOn (hears l b .1) (dealt s (hears l b .0) .1) bs
+  answersOn l s (b ∷ bs) = dealt s (takes l b .0) .0 ++ answersOn (takes l b .1) (dealt s (takes l b .0) .1) bs
 
   -- what the last byte leaves
   unfoldable pub leftOn : Listener → S → List ℕ → S
   leftOn l s [] = s
-  leftOn l s (b ∷ bs) = leftOn (hears l b .1) (dealt s (hears l b .0) .1) bs
+  leftOn l s (b ∷ bs) = leftOn (takes l b .1) (dealt s (takes l b .0) .1) bs
 
 -- ---- the block's panel
 
--- how many frames it has served, its image, and its one output, in which every reply is laid
+-- how many frames it has dealt with, refused ones too, its image, and its one output, in which every reply is laid
 pub record Panel : Type 0 where
   pub turn : ℕ
   pub image : List ℕ

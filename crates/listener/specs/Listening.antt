@@ -14,7 +14,7 @@ use Rattle.listener.specs.declared.step.Step.{Step}
 
 -- who is not gathering lets the byte pass
 abbrev pub passes : ℕ → Bool → Step
-passes count gathering = record { count = count; gathering = gathering; stores = false; frame = false }
+passes count gathering = record { count = count; gathering = gathering; stores = false; there = false }
 
 -- a byte for which there is no room drops what was gathered
 abbrev pub drops : Step
@@ -22,7 +22,7 @@ drops = passes 0 false
 
 -- one byte more; the one that ends the frame hands it out, and the record stops gathering and still holds it
 abbrev pub gathers : ℕ → Bool → Step
-gathers count ends = record { count = count + 1; gathering = not ends; stores = true; frame = ends }
+gathers count ends = record { count = count + 1; gathering = not ends; stores = true; there = ends }
 
 -- 3Ah starts afresh
 abbrev pub starts : Step
@@ -44,11 +44,15 @@ stepOf before count gathering byte =
 unfoldable pub beforeAt : ℕ → ℕ
 beforeAt count = cond (within 1 269 count) (count - 1) 0
 
+-- the record that a byte leaves, and whether a frame is there then
+abbrev pub both : Listener → Bool → Listened
+both l there = record { listener = l; there = there }
+
 -- the record as a step leaves it: the byte, where it is stored, is the last of those counted, and every other byte of the room stays
 unfoldable pub stepped : Listener → ℕ → Step → Listened
 stepped l byte s = record {
   listener = record { room = cond (s .stores) (lay (l .room) (s .count - 1) (byte ∷ [])) (l .room); count = s .count; gathering = s .gathering };
-  frame = s .frame;
+  there = s .there;
 }
 
 unfoldable pub listened : Listener → ℕ → Listened

@@ -14,17 +14,17 @@ use Rattle.listener.specs.Line.{Stretch, Panel}
 unfoldable pub noisy : List ℕ
 noisy = codes "7F0" ++ (ended ":0132CD" ++ (ended "0132CD" ++ (codes ":01" ++ (ended ":01330FBD" ++ (13 ∷ (10 ∷ []))))))
 
--- a line as a panel may meet it: P2 sets the mask, with a frame behind it whose 3Ah was lost; P1 reads it; the key is turned, and what would clear the mask
--- is refused; P1 reads it again
+-- a line as a panel may meet it: P2 sets the mask, with a frame behind it whose 3Ah was lost; another mask is set; the key is turned, and what would
+-- clear the mask is refused; P1 reads it
 unfoldable pub spaced : List ℕ
 spaced =
-    codes "7F0" ++ (ended ":01330FBD" ++ (ended "013300CC" ++ (ended ":0132CD" ++ (codes "7" ++ (ended ":013300CC" ++ (10 ∷ (13 ∷ ended ":0132CD")))))))
+    codes "7F0" ++ (ended ":01330FBD" ++ (ended "013300CC" ++ (ended ":0133F0DC" ++ (codes "7" ++ (ended ":013300CC" ++ (10 ∷ (13 ∷ ended ":0132CD")))))))
 
 -- the same, as frames with the noise behind each
 unfoldable pub stretches : List Stretch
 stretches =
     record { frame = ended ":01330FBD"; noise = ended "013300CC" }
-    ∷ (record { frame = ended ":0132CD"; noise = codes "7" }
+    ∷ (record { frame = ended ":0133F0DC"; noise = codes "7" }
     ∷ (record { frame = ended ":013300CC"; noise = 10 ∷ (13 ∷ []) }
     ∷ (record { frame = ended ":0132CD"; noise = [] }
     ∷ [])))

@@ -4,8 +4,8 @@ mod step;
 ghost use mathlib.Core.Path.{_≡_};
 ghost use Rattle.listener.specs.Listening.{listened, idle};
 
-// The bytes gathered, how many of them count, and whether it is gathering; nothing else is kept between two bytes. While a frame is held it is the
-// first `count` bytes of the room.
+// The bytes gathered, how many of them count, and whether it is gathering; nothing else is kept between two bytes. Who has the line holds one of these for
+// it, and lends it with each byte.
 pub struct Listener {
     pub room: [u8; 269],
     pub count: usize,
@@ -15,12 +15,13 @@ pub struct Listener {
 // The record after a byte, and whether a frame is there now.
 pub struct Listened {
     pub listener: Listener,
-    pub frame: bool,
+    pub there: bool,
 }
 
-// Takes one byte of the line; true where it ends a frame, which the record then holds. Every record is taken, whatever stands in it.
+// Takes one byte of the line; true where it ends a frame, which then is the first `count` bytes of the room, until the next 3Ah. Every record is taken,
+// whatever stands in it.
 pub fn listen(l: &mut Listener, byte: u8) -> bool
-    ensures { λ r. ⌜ record { listener = now (l .exit); frame = r } ≡ listened (now (l .entry)) byte ⌝ }
+    ensures { λ r. ⌜ record { listener = now (l .exit); there = r } ≡ listened (now (l .entry)) byte ⌝ }
 {
     let count = l.count;
     let at = step::before_at(count);
@@ -31,16 +32,16 @@ pub fn listen(l: &mut Listener, byte: u8) -> bool
     if next.stores {
         l.room[next.count - 1] = byte;
     }
-    next.frame
+    next.there
 }
 
-// The same for a record that is handed over and handed back.
+// The same for a record that is handed over and handed back: what a Rattle program calls, since its own lending of a record would have to be walked by hand.
 pub fn listen_by_value(l: Listener, byte: u8) -> Listened
     ensures { λ r. ⌜ r ≡ listened l byte ⌝ }
 {
     let mut listener = l;
-    let frame = listen(&mut listener, byte);
-    Listened { listener, frame }
+    let there = listen(&mut listener, byte);
+    Listened { listener, there }
 }
 
 // A record that waits for a frame's first byte.

@@ -8,7 +8,7 @@ pub struct Step {
     pub count: usize,
     pub gathering: bool,
     pub stores: bool,
-    pub frame: bool,
+    pub there: bool,
 }
 
 // Where the byte before the next one stands; 0 where none is gathered, and for a count that no room has.
@@ -32,7 +32,7 @@ fn passes(count: usize, gathering: bool) -> Step
         count,
         gathering,
         stores: false,
-        frame: false,
+        there: false,
     }
 }
 
@@ -45,7 +45,7 @@ fn gathers(count: usize, ends: bool) -> Step
         count: count + 1,
         gathering: !ends,
         stores: true,
-        frame: ends,
+        there: ends,
     }
 }
 
@@ -74,6 +74,7 @@ pub(crate) fn step_of(before: u8, count: usize, gathering: bool, byte: u8) -> St
     if 269 < count {
         return passes(count, gathering);
     }
+    // There is no room for it: what was gathered is dropped.
     if count == 269 {
         return passes(0, false);
     }

@@ -5,7 +5,7 @@ use crate::script;
 use listener::Listener;
 use rules::Switch;
 
-// The listener's record, with the flag and the count, a byte of the room, or the whole room as the script's record has them.
+// The listener, with the flag and the count, a byte of the room, or the whole room as the script's record has them.
 pub(crate) fn changed(mut l: Listener, rec: &[u8]) -> Listener {
     let letter = script::byte(rec, 0);
     let mut room = l.room;
@@ -55,7 +55,7 @@ pub(crate) fn hear(mut l: Listener, rec: &[u8], image: &mut [u8], out: &mut [u8]
         let heard = listener::listen_by_value(l, bytes[i]);
         l = heard.listener;
         i += 1;
-        if heard.frame {
+        if heard.there {
             let room = l.room;
             frame(letter, i, l.count, &room, image, out);
         }

@@ -5,7 +5,7 @@ use crate::print;
 use listener::Listener;
 
 // The first of the bytes tells whether the record gathers, those behind it are its room's first. Where they are more than a room has, all are dropped.
-pub(crate) fn recorded(count: usize, a: u8, bytes: &[u8]) -> Listener {
+pub(crate) fn recorded(count: usize, flag: u8, bytes: &[u8]) -> Listener {
     let idle = listener::idle();
     let mut room = idle.room;
     if 0 < bytes.len() {
@@ -14,7 +14,7 @@ pub(crate) fn recorded(count: usize, a: u8, bytes: &[u8]) -> Listener {
     Listener {
         room,
         count,
-        gathering: a == 1,
+        gathering: flag == 1,
     }
 }
 
@@ -42,7 +42,7 @@ pub(crate) fn off(mut l: Listener, bytes: &[u8]) -> Listener {
         let heard = listener::listen_by_value(l, bytes[i]);
         l = heard.listener;
         i += 1;
-        if heard.frame {
+        if heard.there {
             print_frame(i, l);
         }
     }

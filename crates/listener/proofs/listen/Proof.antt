@@ -48,9 +48,8 @@ use denote.Triple.Table.{entered, cited}
 use denote.Triple.Walked.{says, Stays, stay-ref, stay-none, walkOf, goes-none, goes-ref, Walks, ends-at, walked, walk-meets}
 use denote.Exit.{yes}
 use Rattle.laws.proofs.Bytes.{lay-one}
-use Rattle.listener.specs.Listening.{stepOf, beforeAt, stepped, listened}
+use Rattle.listener.specs.Listening.{stepOf, beforeAt, both, stepped, listened}
 use Rattle.listener.specs.declared.Listener.{Listener}
-use Rattle.listener.specs.declared.Listened.{Listened}
 use Rattle.listener.specs.declared.step.Step.{Step}
 use Rattle.listener.proofs.Cases.{stores-inside}
 use Rattle.listener.proofs.Element.{set-vals, nth-byte}
@@ -85,9 +84,6 @@ count-fits r vs is = LL.owed S.the-type S′.the-laws r vs is .0 .1
 
 -- ---- the record that a step leaves, over the definitions
 
-abbrev both : Listener → Bool → Listened
-both k r = record { listener = k; frame = r }
-
 abbrev after : List ℕ → Step → Listener
 after xs r = made xs (r .count) (r .gathering)
 
@@ -111,11 +107,11 @@ module _ (h : Listener) (n i : ℕ) (r : Step) (at : i ≡ beforeAt (h .count)) 
   unfolding listened
   defined = ap (stepped h n) (e ∙ ap (λ k. stepOf (getD (h .room) k 0) (h .count) (h .gathering) n) at)
 
-  when-stored : r .stores ≡ true → both (after (set (h .room) (r .count - 1) n) r) (r .frame) ≡ listened h n
+  when-stored : r .stores ≡ true → both (after (set (h .room) (r .count - 1) n) r) (r .there) ≡ listened h n
   unfolding stepped
   when-stored s = rw (← defined, s, lay-one (h .room) (r .count - 1) n)
 
-  when-kept : r .stores ≡ false → both (after (h .room) r) (r .frame) ≡ listened h n
+  when-kept : r .stores ≡ false → both (after (h .room) r) (r .there) ≡ listened h n
   unfolding stepped
   when-kept s = rw (← defined, s)
 
@@ -223,7 +219,7 @@ module _ {M : Type 1} (𝓤 : URA M) (H : Heap 𝓤) (A : Atoms 𝓤) (at-mem : 
           ∷ ‵ (fat fullShare lent l₁ 0 (vptr b o)) ∷ ‵ (fdies lent l₁)
           ∷ ‵ (froom tyBool l₀ 0) ∷ ‵ (fdies tyBool l₀) ∷ []
 
-      ending : (xs : List ℕ) (r : Step) → Room xs → r .count < 2 ^ 64 → both (after xs r) (r .frame) ≡ listened h n
+      ending : (xs : List ℕ) (r : Step) → Room xs → r .count < 2 ^ 64 → both (after xs r) (r .there) ≡ listened h n
           → Sq W (Left xs r) (prop (Wp 𝓤 H C Λ En code-mir.t-13 (atReturn 𝓤 H En Post)))
       ending xs r room few e =
           exec ! C Λ En code-mir.t-13 (atRet En Post) $
@@ -236,7 +232,7 @@ module _ {M : Type 1} (𝓤 : URA M) (H : Heap 𝓤) (A : Atoms 𝓤) (at-mem : 
           move ! (29 ∷ 30 ∷ []) $ free1 ! $ move ! (27 ∷ 28 ∷ []) $ free1 ! $ move ! (25 ∷ 26 ∷ []) $ free1 ! $ move ! (23 ∷ 24 ∷ []) $ free1 ! $
           move ! (21 ∷ 22 ∷ []) $ free1 ! $ move ! (19 ∷ 20 ∷ []) $ free1 ! $ move ! (17 ∷ 18 ∷ []) $ free1 ! $ move ! (15 ∷ 16 ∷ []) $ free1 ! $
           move ! (13 ∷ 14 ∷ []) $ free1 ! $ move ! (11 ∷ 12 ∷ []) $ free1 ! $ move ! (9 ∷ 10 ∷ []) $ free1 ! $ move ! (7 ∷ 8 ∷ []) $ free1 ! $
-          move ! (5 ∷ 6 ∷ []) $ free1 ! $ move ! (3 ∷ 4 ∷ []) $ free1 ! $ free0 ! $ keep ! (0 ∷ 1 ∷ 2 ∷ []) $ by ! (exits (after xs r) (r .frame) e)
+          move ! (5 ∷ 6 ∷ []) $ free1 ! $ move ! (3 ∷ 4 ∷ []) $ free1 ! $ free0 ! $ keep ! (0 ∷ 1 ∷ 2 ∷ []) $ by ! (exits (after xs r) (r .there) e)
 
       -- the byte is stored where the step says so: as the last of those that now count
       branch : (i : ℕ) (r : Step) → Room (h .room) → r .count < 2 ^ 64 → i ≡ beforeAt (h .count) → Said h n i r

@@ -44,7 +44,7 @@ use denote.Triple.Clauses.{ensured, lasts}
 use denote.Triple.Table.{entered, cited}
 use denote.Triple.Walked.{says, Stays, stay-none, walkOf, goes-none, Walks, ends-at, walked, walk-meets}
 use denote.Exit.{yes}
-use Rattle.listener.specs.Listening.{listened}
+use Rattle.listener.specs.Listening.{both, listened}
 use Rattle.listener.specs.declared.Listener.{Listener}
 use Rattle.listener.specs.declared.Listened.{Listened}
 use Rattle.listener.proofs.Listener as T
@@ -72,10 +72,6 @@ vals h = val h ∷ []
 
 abbrev both-val : Listened → Val
 both-val = LL.val R.the-type R′.the-laws
-
--- what is handed back: the record, and whether a frame is there
-abbrev both : Listener → Bool → Listened
-both k r = record { listener = k; frame = r }
 
 both-is : (k : Listener) (r : Bool) → Is T.the-row k (vals k) → Is R.the-row (both k r) (both-val (both k r) ∷ [])
 both-is k r is = LL.owes R.the-type R′.the-laws (both k r) (is, (refl, tt))
