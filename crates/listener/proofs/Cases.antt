@@ -6,7 +6,8 @@ use native.Mathlib.Omega.{arith}
 use lib.Dec.{leb, eqb}
 use borrow.Author.Tests.{leb-true, eqb-false, le-leb, lt-leb, eq-eqb, ne-eqb}
 use Rattle.laws.specs.Checks.{within}
-use Rattle.laws.proofs.Tests.{never, and-both, within-in, within-above}
+use Rattle.laws.proofs.Tests.{and-both, within-in, within-above}
+use Rattle.listener.specs.declared.step.Step.{Step}
 use Rattle.listener.specs.Listening.{starts, passes, drops, gathers, endsFrame, stepOf, beforeAt}
 
 module _ (before count : ℕ) (g : Bool) (byte : ℕ) where
@@ -60,21 +61,24 @@ unfolding beforeAt within
 before-is zero h = refl
 before-is (suc n) h = rw (within-in 1 269 (suc n) (omega arith) h)
 
--- ---- a byte that is stored is the last of those counted, and there is room for it
+-- ---- which of the four things a byte does, whatever it is
 
--- by what the three tests said
-inside : (colon takes full : Bool) (count : ℕ) (g ends : Bool) → (takes ≡ true → count ≤ 269) → (full ≡ false → ¬ (count ≡ 269))
-    → cond colon starts (cond takes (cond full drops (gathers count ends)) (passes count g)) .stores ≡ true
-    → (1 ≤ cond colon starts (cond takes (cond full drops (gathers count ends)) (passes count g)) .count)
-    × (cond colon starts (cond takes (cond full drops (gathers count ends)) (passes count g)) .count ≤ 269)
-inside true takes full count g ends h k e = (omega arith, omega arith)
-inside false true true count g ends h k e = absurd (never e)
-inside false true false count g ends h k e = let a : count ≤ 269 = h refl in let b : ¬ (count ≡ 269) = k refl in (omega arith, omega arith)
-inside false false full count g ends h k e = absurd (never e)
+pub data Does (count : ℕ) (g : Bool) (s : Step) : Type 0 where
+  starts-it : s ≡ starts → Does count g s
+  lets-pass : (g && leb count 269) ≡ false → s ≡ passes count g → Does count g s
+  drops-all : s ≡ drops → Does count g s
+  adds-one : (ends : Bool) → count < 269 → s ≡ gathers count ends → Does count g s
 
-pub stores-inside : (before count : ℕ) (g : Bool) (byte : ℕ) → stepOf before count g byte .stores ≡ true
-    → (1 ≤ stepOf before count g byte .count) × (stepOf before count g byte .count ≤ 269)
+pub does : (before count : ℕ) (g : Bool) (byte : ℕ) → Does count g (stepOf before count g byte)
 unfolding stepOf
-stores-inside before count g byte =
-    inside (eqb byte 58) (g && leb count 269) (eqb count 269) count g (endsFrame before count byte)
-    (λ e. leb-true count 269 (and-both g (leb count 269) e .1)) (eqb-false count 269)
+does before count g byte = by (eqb byte 58) (g && leb count 269) refl (eqb count 269) refl
+  where
+    by : (colon room : Bool) → (g && leb count 269) ≡ room → (full : Bool) → eqb count 269 ≡ full
+        → Does count g (cond colon starts (cond room (cond full drops (gathers count (endsFrame before count byte))) (passes count g)))
+    by true room e full k = starts-it refl
+    by false false e full k = lets-pass e refl
+    by false true e true k = drops-all refl
+    by false true e false k =
+        let low = leb-true count 269 (and-both g (leb count 269) e .1) in
+        let other = eqb-false count 269 k in
+        adds-one (endsFrame before count byte) (omega arith) refl

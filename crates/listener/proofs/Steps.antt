@@ -2,21 +2,21 @@
 use mathlib.Core.Path.{_≡_, refl, ap, _∙_}
 use mathlib.Core.Logic.{_≢_}
 use mathlib.Core.List.{[], _∷_}
-use mathlib.Core.Bool.{Bool, true, false, not, cond, _&&_, and-false}
+use mathlib.Core.Bool.{Bool, true, false, not, cond, and-false}
 use Prim.Native.Nat.{ℕ, _+_, _-_, _≤_, _<_}
 use native.Mathlib.Decide.{ℕ-discrete}
 use native.Mathlib.Omega.{arith}
 use lib.ListN.{length, getD}
-use lib.Dec.{leb, eqb}
-use borrow.Author.Tests.{lt-leb, ne-eqb}
+use borrow.Author.Tests.{leb-false, lt-leb, ne-eqb}
 use Rattle.laws.specs.Bytes.{lay}
 use Rattle.laws.proofs.Bytes.{length-lay, lay-out}
 use Rattle.laws.proofs.Tests.{never}
 use Rattle.listener.specs.declared.Listener.{Listener}
 use Rattle.listener.specs.declared.step.Step.{Step}
-use Rattle.listener.specs.Listening.{starts, passes, drops, gathers, endsFrame, stepOf, beforeAt, stepped, listened}
+use Rattle.listener.specs.Listening.{endsFrame, stepOf, beforeAt, stepped, listened}
 use Rattle.listener.specs.Handing.{Waits}
-use Rattle.listener.proofs.Cases.{not-gathering, is-full, has-room, none-before, no-return, by-line-feed, before-is, stores-inside}
+use Rattle.listener.proofs.Cases.{not-gathering, is-full, has-room, none-before, no-return, by-line-feed, before-is}
+use Rattle.listener.proofs.Cases.{Does, starts-it, lets-pass, drops-all, adds-one, does}
 
 -- ---- a byte, by the rule that it falls under
 
@@ -30,7 +30,7 @@ module _ (l : Listener) where
     -- who is not gathering, and a count above 269 is not, lets it pass
     pub passes-by : Waits l → listened l b ≡ record { listener = l; there = false }
     unfolding listened stepped
-    passes-by idle = rw (not-gathering _ (l .count) (l .gathering) b other idle)
+    passes-by waits = rw (not-gathering _ (l .count) (l .gathering) b other waits)
 
     -- the 270th byte drops what was gathered
     pub drops-at-269 : l .gathering ≡ true → l .count ≡ 269
@@ -80,19 +80,25 @@ pub first-unjudged : (x y : ℕ) (g : Bool) (b : ℕ) → stepOf x 0 g b ≡ ste
 unfolding stepOf endsFrame
 first-unjudged x y g b = refl
 
--- a frame that is there has its bytes in the room: by what the three tests said
-stored-there : (colon takes full : Bool) (count : ℕ) (g ends : Bool)
-    → cond colon starts (cond takes (cond full drops (gathers count ends)) (passes count g)) .there ≡ true
-    → cond colon starts (cond takes (cond full drops (gathers count ends)) (passes count g)) .stores ≡ true
-stored-there true takes full count g ends e = refl
-stored-there false true true count g ends e = absurd (never e)
-stored-there false true false count g ends e = refl
-stored-there false false full count g ends e = absurd (never e)
+-- a byte that is stored is the last of those counted, and inside the room
+pub stores-inside : (before count : ℕ) (g : Bool) (b : ℕ) → stepOf before count g b .stores ≡ true
+    → (1 ≤ stepOf before count g b .count) × (stepOf before count g b .count ≤ 269)
+stores-inside before count g b = by (does before count g b)
+  where
+    by : {s : Step} → Does count g s → s .stores ≡ true → (1 ≤ s .count) × (s .count ≤ 269)
+    by (starts-it e) h = rw e (omega arith, omega arith)
+    by (lets-pass w e) h = absurd (never (rw e at h))
+    by (drops-all e) h = absurd (never (rw e at h))
+    by (adds-one t low e) h = rw e (omega arith, omega arith)
 
 module _ (l : Listener) (b : ℕ) where
   -- the step that is taken
   now : Step
   now = stepOf (getD (l .room) (beforeAt (l .count)) 0) (l .count) (l .gathering) b
+
+  done : Does (l .count) (l .gathering) now
+  unfolding now
+  done = does (getD (l .room) (beforeAt (l .count)) 0) (l .count) (l .gathering) b
 
   pub room-stays : length (listened l b .listener .room) ≡ length (l .room)
   unfolding listened stepped now
@@ -113,7 +119,25 @@ module _ (l : Listener) (b : ℕ) where
 
   -- where a frame is there, as many bytes count as the room can have
   pub there-inside : listened l b .there ≡ true → (1 ≤ listened l b .listener .count) × (listened l b .listener .count ≤ 269)
-  unfolding listened stepped stepOf
-  there-inside e =
-      stores-inside _ (l .count) (l .gathering) b (stored-there (eqb b 58) (l .gathering && leb (l .count) 269) (eqb (l .count) 269) (l .count) (l .gathering)
-      (endsFrame (getD (l .room) (beforeAt (l .count)) 0) (l .count) b) e)
+  unfolding listened stepped now
+  there-inside = by done
+    where
+      by : {s : Step} → Does (l .count) (l .gathering) s → s .there ≡ true → (1 ≤ s .count) × (s .count ≤ 269)
+      by (starts-it e) h = absurd (never (rw e at h))
+      by (lets-pass w e) h = absurd (never (rw e at h))
+      by (drops-all e) h = absurd (never (rw e at h))
+      by (adds-one t low e) h = rw e (omega arith, omega arith)
+
+  -- no byte leaves a record that gathers and has nothing
+  pub gathers-some : listened l b .listener .gathering ≡ true → 1 ≤ listened l b .listener .count
+  unfolding listened stepped now
+  gathers-some = by done
+    where
+      by : {s : Step} → Does (l .count) (l .gathering) s → s .gathering ≡ true → 1 ≤ s .count
+      by (starts-it e) h = rw e (omega arith)
+      by (lets-pass w e) h =
+          let on : l .gathering ≡ true = rw e at h in
+          let over = leb-false (l .count) 269 (rw on at w) in
+          rw e (omega arith)
+      by (drops-all e) h = absurd (never (rw e at h))
+      by (adds-one t low e) h = rw e (omega arith)

@@ -50,10 +50,9 @@ both l there = record { listener = l; there = there }
 
 -- the record as a step leaves it: the byte, where it is stored, is the last of those counted, and every other byte of the room stays
 unfoldable pub stepped : Listener → ℕ → Step → Listened
-stepped l byte s = record {
-  listener = record { room = cond (s .stores) (lay (l .room) (s .count - 1) (byte ∷ [])) (l .room); count = s .count; gathering = s .gathering };
-  there = s .there;
-}
+stepped l byte s =
+    let room = cond (s .stores) (lay (l .room) (s .count - 1) (byte ∷ [])) (l .room) in
+    both (record { room = room; count = s .count; gathering = s .gathering }) (s .there)
 
 unfoldable pub listened : Listener → ℕ → Listened
 listened l byte = stepped l byte (stepOf (getD (l .room) (beforeAt (l .count)) 0) (l .count) (l .gathering) byte)

@@ -51,7 +51,7 @@ use Rattle.laws.proofs.Bytes.{lay-one}
 use Rattle.listener.specs.Listening.{stepOf, beforeAt, both, stepped, listened}
 use Rattle.listener.specs.declared.Listener.{Listener}
 use Rattle.listener.specs.declared.step.Step.{Step}
-use Rattle.listener.proofs.Cases.{stores-inside}
+use Rattle.listener.proofs.Steps.{stores-inside}
 use Rattle.listener.proofs.Element.{set-vals, nth-byte}
 use Rattle.listener.proofs.Record.{made, valOf, val, vals, spells, Room, room-of, count-of, made-is, room-with}
 use Rattle.listener.proofs.Listener as R
