@@ -58,7 +58,7 @@ frame-handed l room f well = ap frames (found l room [] f well) ∙ frames-appen
 -- behind noise without a 3Ah, from a record that waits
 past-noise : (l : Listener) → Waits l → (noise rest : List ℕ) → among 58 noise ≡ false
     → frames (outcomes takes l (noise ++ rest)) ≡ frames (outcomes takes l rest)
-past-noise l idle noise rest n = let p = waits-passes l idle noise n in frames-split l noise rest ∙ rw (p .0, p .1, no-frames (length noise))
+past-noise l waits noise rest n = let p = waits-passes l waits noise n in frames-split l noise rest ∙ rw (p .0, p .1, no-frames (length noise))
 
 -- the frames that stand on a line with such noise between them, and nothing else, from any record
 pub line-handed : (l : Listener) → length (l .room) ≡ 269 → (xs : List Stretch) → Clean xs → frames (outcomes takes l (line xs)) ≡ framesOf xs

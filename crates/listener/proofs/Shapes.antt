@@ -28,7 +28,7 @@ module _ (k : ℕ) where
   among-append [] b = refl
   among-append (x ∷ a) b = rw (among-append a b) (sym (or-assoc (eqb k x) (among k a) (among k b)))
 
-  -- where a number is not among a list, it is none of its elements
+  -- a number that is not among a list is neither its first nor among the rest
   pub not-first : (n : ℕ) (ns : List ℕ) → among k (n ∷ ns) ≡ false → (n ≢ k) × (among k ns ≡ false)
   unfolding among
   not-first n ns e = let p = neither (eqb k n) (among k ns) e in (λ i. eqb-false k n (p .0) (sym i), p .1)
@@ -76,7 +76,7 @@ pub record Begun (s : List ℕ) (n : ℕ) : Type 0 where
   pub only : among 58 (drop 1 s) ≡ false
   pub unended : every (λ i. not (endAt s i)) n ≡ true
 
--- such a list is a frame exactly if 0Dh 0Ah is its end and it is not too long
+-- such a list, if it is not too long, is a frame exactly if 0Dh 0Ah is its end
 pub well-is : (f : List ℕ) → Begun f (length f - 2) → length f ≤ 269 → wellFormed f ≡ endAt f (length f - 2)
 unfolding wellFormed
 well-is f b high = rw (b .first, b .only, b .unended, le-leb (length f) 269 high) (and-true (endAt f (length f - 2)))

@@ -80,7 +80,7 @@ pub first-unjudged : (x y : ℕ) (g : Bool) (b : ℕ) → stepOf x 0 g b ≡ ste
 unfolding stepOf endsFrame
 first-unjudged x y g b = refl
 
--- a byte that is stored is the last of those counted, and inside the room
+-- where a byte is stored, 1 to 269 count then, so that the last of them is inside the room
 pub stores-inside : (before count : ℕ) (g : Bool) (b : ℕ) → stepOf before count g b .stores ≡ true
     → (1 ≤ stepOf before count g b .count) × (stepOf before count g b .count ≤ 269)
 stores-inside before count g b = by (does before count g b)
@@ -117,7 +117,7 @@ module _ (l : Listener) (b : ℕ) where
       go true some = let low = some refl in lay-out (l .room) (now .count - 1) (b ∷ []) i (λ p. omega arith)
       go false some = refl
 
-  -- where a frame is there, as many bytes count as the room can have
+  -- where a frame is there, 1 to 269 bytes count
   pub there-inside : listened l b .there ≡ true → (1 ≤ listened l b .listener .count) × (listened l b .listener .count ≤ 269)
   unfolding listened stepped now
   there-inside = by done

@@ -1,4 +1,4 @@
--- Two lines, worked. On the first every definition of listening and of serving is computed, and no law on lines is used, so it holds the definitions to the
+-- Two lines, worked. On the first, listening and serving are computed by their definitions and no law on lines is used, so it holds the definitions to the
 -- documents' frames; the second meets the premises of the theorem on lines. Assumes nothing.
 use mathlib.Core.Path.{_≡_, refl}
 use mathlib.Core.List.{List, [], _∷_, _++_, map}

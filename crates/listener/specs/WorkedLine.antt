@@ -20,7 +20,7 @@ unfoldable pub spaced : List ℕ
 spaced =
     codes "7F0" ++ (ended ":01330FBD" ++ (ended "013300CC" ++ (ended ":0133F0DC" ++ (codes "7" ++ (ended ":013300CC" ++ (10 ∷ (13 ∷ ended ":0132CD")))))))
 
--- the same, as frames with the noise behind each
+-- the same behind its first noise, as frames with the noise behind each
 unfoldable pub stretches : List Stretch
 stretches =
     record { frame = ended ":01330FBD"; noise = ended "013300CC" }
