@@ -1,7 +1,7 @@
 -- A record and its machine value: an array of 269 bytes, a word and a bool. Assumes nothing.
 use mathlib.Core.Path.{_≡_, refl, sym, _∙_, ap, subst}
 use mathlib.Core.Bool.{Bool}
-use mathlib.Core.List.{List, [], _∷_, map}
+use mathlib.Core.List.{List, [], _∷_, map, map-id}
 use Prim.Native.Nat.{ℕ, zero, suc, _<_, _^_}
 use lib.Dec.{lit<}
 use lib.ListN.{length, getD, set, length-set}
@@ -34,13 +34,9 @@ val xs count g = valOf (map byteVal xs) count g
 abbrev pub vals : Listener → List Val
 vals h = val (h .room) (h .count) (h .gathering) ∷ []
 
--- a field that is an array is made of its elements, each as it is
-same : (l : List ℕ) → map (λ (v : ℕ). v) l ≡ l
-same [] = refl
-same (v ∷ l) = ap (λ (t : List ℕ). v ∷ t) (same l)
-
+-- a field that is an array is made of its elements, each as it is, which `map-id` says
 pub spells : (h : Listener) (vs : List Val) → Is T.the-row h vs → vs ≡ vals h
-spells h vs is = LL.tells T.the-type T′.the-laws h vs is ∙ ap (λ (l : List ℕ). val l (h .count) (h .gathering) ∷ []) (same (h .room))
+spells h vs is = LL.tells T.the-type T′.the-laws h vs is ∙ ap (λ (l : List ℕ). val l (h .count) (h .gathering) ∷ []) (map-id (h .room))
 
 -- ---- what a record's types say of its fields, and all that they ask
 
@@ -64,7 +60,7 @@ pub room-of : (h : Listener) → Is T.the-row h (vals h) → Room (h .room)
 room-of h is =
     let xs : List ℕ = map (λ (v : ℕ). v) (h .room) in
     let p : Is Bytes xs _ = LL.owed T.the-type T′.the-laws h _ is .0 in
-    subst Room (same (h .room)) (record { long = p .1 .0 .1; bytes = bytes-in xs (p .0) (p .1 .1) })
+    subst Room (map-id (h .room)) (record { long = p .1 .0 .1; bytes = bytes-in xs (p .0) (p .1 .1) })
 
 pub count-of : (h : Listener) → Is T.the-row h (vals h) → h .count < 2 ^ 64
 count-of h is = LL.owed T.the-type T′.the-laws h _ is .1 .0 .1
@@ -73,7 +69,7 @@ pub made-is : (xs : List ℕ) (count : ℕ) (g : Bool) → Room xs → count < 2
 made-is xs count g room fits =
     let k : Listener = made xs count g in
     let bytes : Is Bytes xs (arrayVal (map byteVal xs) ∷ []) = (map byteVal xs, ((refl, room .long), bytes-out xs (room .bytes))) in
-    let field : Is Bytes (map (λ (v : ℕ). v) xs) _ = subst (λ (l : List ℕ). Is Bytes l (arrayVal (map byteVal l) ∷ [])) (sym (same xs)) bytes in
+    let field : Is Bytes (map (λ (v : ℕ). v) xs) _ = subst (λ (l : List ℕ). Is Bytes l (arrayVal (map byteVal l) ∷ [])) (sym (map-id xs)) bytes in
     let is : Is T.the-row k (LL.vals T.the-type T′.the-laws k) = LL.owes T.the-type T′.the-laws k (field, ((refl, fits), (refl, tt))) in
     subst (λ (us : List Val). Is T.the-row k us) (spells k _ is) is
 

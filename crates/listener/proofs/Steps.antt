@@ -2,12 +2,12 @@
 use mathlib.Core.Path.{_≡_, refl, ap, _∙_}
 use mathlib.Core.Logic.{_≢_}
 use mathlib.Core.List.{[], _∷_}
-use mathlib.Core.Bool.{Bool, true, false, not, cond, and-false}
+use mathlib.Core.Bool.{Bool, true, false, not, cond}
 use Prim.Native.Nat.{ℕ, _+_, _-_, _≤_, _<_}
 use native.Mathlib.Decide.{ℕ-discrete}
 use native.Mathlib.Omega.{arith}
 use lib.ListN.{length, getD}
-use borrow.Author.Tests.{leb-false, lt-leb, ne-eqb}
+use borrow.Author.Tests.{leb-false, ne-eqb}
 use Rattle.laws.specs.Bytes.{lay}
 use Rattle.laws.proofs.Bytes.{length-lay, lay-out}
 use Rattle.laws.proofs.Tests.{never}
@@ -15,7 +15,7 @@ use Rattle.listener.specs.declared.Listener.{Listener}
 use Rattle.listener.specs.declared.step.Step.{Step}
 use Rattle.listener.specs.Listening.{endsFrame, stepOf, beforeAt, stepped, listened}
 use Rattle.listener.specs.Handing.{Waits}
-use Rattle.listener.proofs.Cases.{not-gathering, is-full, has-room, none-before, no-return, by-line-feed, before-is}
+use Rattle.listener.proofs.Cases.{not-gathering, over-full, is-full, has-room, none-before, no-return, by-line-feed, before-is}
 use Rattle.listener.proofs.Cases.{Does, starts-it, lets-pass, drops-all, adds-one, does}
 
 -- ---- a byte, by the rule that it falls under
@@ -66,7 +66,8 @@ module _ (l : Listener) where
 
     -- no room has so many
     pub over-full-stays : 269 < l .count → listened l b ≡ record { listener = l; there = false }
-    over-full-stays h = passes-by (rw (lt-leb (l .count) 269 h, and-false))
+    unfolding listened stepped
+    over-full-stays h = rw (over-full _ (l .count) (l .gathering) b other h)
 
   -- 0Ah right after 0Dh
   pub ends-the-frame : l .gathering ≡ true → 0 < l .count → l .count < 269 → getD (l .room) (l .count - 1) 0 ≡ 13
