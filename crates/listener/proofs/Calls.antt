@@ -42,7 +42,7 @@ takes-so l [] = no-call l
 takes-so l (byte ∷ bytes) =
     a-call l byte bytes (listened l byte .listener) (listened l byte .there) _ _ refl (takes-so (listened l byte .listener) bytes)
 
--- so from any record, calls with the bytes of a well-formed frame return false up to the last, which returns true and leaves a record that holds it
+-- so from any record, calls with the bytes of a well-formed frame return false before the last, which returns true and leaves a record that holds it
 pub calls-find : {l m : Listener} {f : List ℕ} {os : List (Option (List ℕ))} → length (l .room) ≡ 269 → wellFormed f ≡ true → Took l f os m
     → (os ≡ replicate (length f - 1) none ++ (some f ∷ [])) × ((gathered m ≡ f) × (m .gathering ≡ false))
 calls-find {l} {m} {f} room well t =

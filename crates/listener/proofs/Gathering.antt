@@ -125,4 +125,4 @@ module _ (g : List ℕ) (l : Listener) (h : Holds g true l) (b : ℕ) (other : b
 -- who lets a byte pass hands nothing out and stays
 pub waits-stays : (l : Listener) → Waits l → (b : ℕ) → b ≢ 58 → (handed (listened l b) ≡ none) × (listened l b .listener ≡ l)
 unfolding handed
-waits-stays l idle b other = rw (passes-by l b other idle) (refl, refl)
+waits-stays l still b other = rw (passes-by l b other still) (refl, refl)

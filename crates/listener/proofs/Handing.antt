@@ -28,11 +28,11 @@ use Rattle.listener.proofs.Along.{outcomes-append, length-outcomes, lef
 -- who waits lets all pass but 3Ah, and is left as it was
 pub waits-passes : (l : Listener) → Waits l → (s : List ℕ) → among 58 s ≡ false
     → (outcomes takes l s ≡ replicate (length s) none) × (final takes l s ≡ l)
-waits-passes l idle [] n = (refl, refl)
-waits-passes l idle (b ∷ s) n =
+waits-passes l still [] n = (refl, refl)
+waits-passes l still (b ∷ s) n =
     let o = not-first 58 b s n in
-    let e = waits-stays l idle b (o .0) in
-    let r = waits-passes l idle s (o .1) in
+    let e = waits-stays l still b (o .0) in
+    let r = waits-passes l still s (o .1) in
     rw (e .0, e .1) (ap (λ (t : List (Option (List ℕ))). none ∷ t) (r .0), r .1)
 
 -- ---- since the last 3Ah
@@ -57,10 +57,10 @@ first l room = (rw (starts-afresh l) refl, gathers (record { first = refl; only 
 
 -- with b, no frame can come of s any more
 lost : (s : List ℕ) (b : ℕ) (l : Listener) → ((t : List ℕ) → wellFormed (s ++ (b ∷ t)) ≡ false) → Waits l → Stands (s ++ (b ∷ [])) l
-lost s b l dead idle = waits (λ c t. rw append-assoc (dead (c ∷ t))) idle (λ w. absurd (never (sym (dead []) ∙ w)))
+lost s b l dead still = waits (λ c t. rw append-assoc (dead (c ∷ t))) still (λ w. absurd (never (sym (dead []) ∙ w)))
 
 next : (s : List ℕ) (l : Listener) (b : ℕ) → b ≢ 58 → Stands s l → Did (s ++ (b ∷ [])) (listened l b)
-next s l b other (waits dead idle held) = let e = waits-stays l idle b other in rw (e .0, e .1, dead b []) (refl, lost s b l (dead b) idle)
+next s l b other (waits dead still held) = let e = waits-stays l still b other in rw (e .0, e .1, dead b []) (refl, lost s b l (dead b) still)
 next s l b other (gathers begun h) = by (after s l h b other)
   where
     by : After s b (listened l b) → Did (s ++ (b ∷ [])) (listened l b)
@@ -68,14 +68,14 @@ next s l b other (gathers begun h) = by (after s l h b other)
         let w = well-more s b begun other low ∙ e in
         (rw w o, waits (frame-whole (s ++ (b ∷ [])) w) (holds-waits (s ++ (b ∷ [])) (listened l b .listener) k) (λ _. k))
     by (goes-on low e o k) = (rw (well-more s b begun other low ∙ e) o, gathers (begun-on s b begun other e) k)
-    by (drops full o idle) =
+    by (drops full o still) =
         let dead : (t : List ℕ) → wellFormed (s ++ (b ∷ t)) ≡ false = λ t. too-long (s ++ (b ∷ t)) (omega (arith, length-append s (b ∷ t))) in
-        (rw (dead []) o, lost s b (listened l b .listener) dead idle)
+        (rw (dead []) o, lost s b (listened l b .listener) dead still)
 
 -- a frame that has come is held
 held : (s : List ℕ) (l : Listener) → wellFormed s ≡ true → Stands s l → Holds s false l
 held s l well (gathers begun h) = absurd (unended-none s begun well)
-held s l well (waits dead idle h) = h well
+held s l well (waits dead still h) = h well
 
 -- ---- all that came
 

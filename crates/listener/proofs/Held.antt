@@ -25,13 +25,13 @@ abbrev Did : List ℕ → Listened → Type 0
 Did g r = ((f : List ℕ) → handed r ≡ some f → f ≡ g) × Keeps g (r .listener)
 
 next : (g : List ℕ) (l : Listener) (b : ℕ) → b ≢ 58 → Keeps g l → Did (g ++ (b ∷ [])) (listened l b)
-next g l b other (inl idle) = let e = waits-stays l idle b other in rw (e .0, e .1) (λ f n. absurd (Option·none-ne-some f n), inl idle)
+next g l b other (inl still) = let e = waits-stays l still b other in rw (e .0, e .1) (λ f n. absurd (Option·none-ne-some f n), inl still)
 next g l b other (inr h) = by (after g l h b other)
   where
     by : After g b (listened l b) → Did (g ++ (b ∷ [])) (listened l b)
     by (ends low e o k) = (λ f n. Option·some-injective f (g ++ (b ∷ [])) (sym n ∙ o), inl (holds-waits (g ++ (b ∷ [])) (listened l b .listener) k))
     by (goes-on low e o k) = (λ f n. absurd (Option·none-ne-some f (sym o ∙ n)), inr k)
-    by (drops full o idle) = (λ f n. absurd (Option·none-ne-some f (sym o ∙ n)), inl idle)
+    by (drops full o still) = (λ f n. absurd (Option·none-ne-some f (sym o ∙ n)), inl still)
 
 module _ (l : Listener) (room : length (l .room) ≡ 269) where
   -- p came, and m is left
