@@ -1,18 +1,15 @@
--- What the code that answers cites: an accepted body's reply fits a frame, and what was laid, built and left is what is to be sent. Assumes
+-- What the code that answers cites: an accepted body's reply fits a frame, and what was written and left is what is to be sent. Assumes
 -- nothing.
-use mathlib.Core.Path.{_≡_, refl, sym, ap, _∙_}
+use mathlib.Core.Path.{_≡_, refl, sym}
 use mathlib.Core.Bool.{true}
 use mathlib.Core.List.{List}
 use Prim.Native.Nat.{ℕ, _+_, _≤_}
 use native.Mathlib.Omega.{arith}
 use lib.ListN.{length, getD, take, length-append}
-use lib.Seq.{take-length}
-use Rattle.laws.proofs.Bytes.{length-lay, lay-none, lay-take, slice-most, length-two}
+use Rattle.laws.proofs.Bytes.{lay-none, slice-most, length-two}
 use Rattle.output.specs.declared.answer.Answer.{Answer}
-use Rattle.output.specs.Cursor.{Laid}
-use Rattle.output.specs.Output.{OutputAfter, Does, written}
-use Rattle.frame.specs.Built.{built, frameOf}
-use Rattle.frame.proofs.Answers.{built-done}
+use Rattle.output.specs.Output.{Does, written}
+use Rattle.frame.specs.Built.{frameOf}
 use Rattle.image.specs.declared.cell.Cell.{Cell}
 use Rattle.image.specs.declared.version.Version.{Version}
 use Rattle.image.specs.Version.{current}
@@ -52,27 +49,8 @@ module _ {e : ℕ} {a : Act} {d : Cell} {c : List ℕ} (f : FitAccepted e a d c)
       let l = length-append (take (2 + e) c) (says current a d m) in
       (omega (arith, opening f), omega (arith, opening f, f .reply))
 
--- ---- contents of a frame, laid at the start of a work array
+-- ---- what was written and left is what is to be sent
 
-module _ {bytes w w′ : List ℕ} {n : ℕ} (fits : (2 ≤ length bytes) × (length bytes ≤ 132)) (room : 132 ≤ length w) (l : Laid 0 n w w′ bytes) where
-  pub work-room : n ≤ length w′
-  work-room = omega (arith, ap length (l .laid), length-lay w 0 bytes)
-
-  work-is : take n w′ ≡ bytes
-  work-is =
-      let e : n ≡ length bytes = omega arith in
-      rw (l .laid, e) (lay-take w bytes (omega arith) (length bytes) (omega arith) ∙ take-length bytes)
-
-  pub work-long : n ≡ length (take n w′)
-  work-long = omega (arith, ap length work-is)
-
-  pub work-sends : (out left im : List ℕ) {im′ : List ℕ} {r : Answer} → 269 ≤ length out → im′ ≡ im → Does (built (take n w′) out) r left
-      → Serves (sent (record { number = 0; reply = frameOf bytes; image = im }) out) r im′ left
-  work-sends out left im g i does =
-      let b : built (take n w′) out ≡ written out (frameOf bytes) = rw work-is (built-done bytes out (fits .0) (fits .1) (omega arith)) in
-      record {
-        number-is = does .number-is ∙ ap (λ (x : OutputAfter). x .number) b;
-        len-is = does .len-is ∙ ap (λ (x : OutputAfter). x .len) b;
-        image-is = i;
-        out-is = does .out-is ∙ ap (λ (x : OutputAfter). x .out) b;
-      }
+pub written-sends : (out left im bytes : List ℕ) {im′ : List ℕ} {r : Answer} → im′ ≡ im → Does (written out (frameOf bytes)) r left
+    → Serves (sent (record { number = 0; reply = frameOf bytes; image = im }) out) r im′ left
+written-sends out left im bytes i d = record { number-is = d .number-is; len-is = d .len-is; image-is = i; out-is = d .out-is }

@@ -1,12 +1,12 @@
 // What is done with an accepted body: what the reply says, and what the image becomes.
+use frame::Writer;
 use image::Cell;
-use output::Cursor;
 use rules::Act;
 ghost use mathlib.Core.Path.{_≡_};
 ghost use mathlib.Core.Bool.{true};
-ghost use Prim.Native.Nat.{_+_, _≤_};
+ghost use Prim.Native.Nat.{_+_, _*_, _≤_};
 ghost use lib.ListN.{length};
-ghost use Rattle.output.specs.Cursor.{Laid};
+ghost use Rattle.frame.specs.Written.{Spells};
 ghost use Rattle.image.specs.Version.{current, imageLength};
 ghost use Rattle.image.specs.Cell.{size, extent, isCell, isItem};
 ghost use Rattle.image.specs.Usable.{usable};
@@ -24,45 +24,45 @@ fn extent(cell: Cell, b: u8) -> usize
     }
 }
 
-// At a cursor, a cell's bytes that count.
-fn show(cell: Cell, m: &[u8], reply: &mut [u8], end: Cursor) -> Cursor
-    requires { ⌜ (isCell cell ≡ true) × (usable current (now m) ≡ true) × (end .at + size cell ≤ length (now reply)) ⌝ }
-    ensures { λ r. ⌜ Laid (end .at) (r .at) (now (reply .entry)) (now (reply .exit)) (says current Act.Show cell (now (m .entry))) ⌝ }
+// At a writer, a cell's bytes that count.
+fn show(cell: Cell, m: &[u8], out: &mut [u8], start: Writer) -> Writer
+    requires { ⌜ (isCell cell ≡ true) × (usable current (now m) ≡ true) × (start .at + 2 * size cell ≤ length (now out)) ⌝ }
+    ensures { λ r. ⌜ Spells start (now (out .entry)) (says current Act.Show cell (now (m .entry))) r (now (out .exit)) ⌝ }
 {
-    let start = cell.offset();
-    let e = start + extent(cell, m[start]);
-    end.put_all(reply, &m[start..e])
+    let from = cell.offset();
+    let to = from + extent(cell, m[from]);
+    start.put_all(out, &m[from..to])
 }
 
-// At a cursor, an item's signature, high byte first.
-fn sign(cell: Cell, m: &[u8], reply: &mut [u8], end: Cursor) -> Cursor
-    requires { ⌜ (isItem cell ≡ true) × (usable current (now m) ≡ true) × (end .at + 2 ≤ length (now reply)) ⌝ }
-    ensures { λ r. ⌜ Laid (end .at) (r .at) (now (reply .entry)) (now (reply .exit)) (says current Act.Sign cell (now (m .entry))) ⌝ }
+// At a writer, an item's signature, high byte first.
+fn sign(cell: Cell, m: &[u8], out: &mut [u8], start: Writer) -> Writer
+    requires { ⌜ (isItem cell ≡ true) × (usable current (now m) ≡ true) × (start .at + 4 ≤ length (now out)) ⌝ }
+    ensures { λ r. ⌜ Spells start (now (out .entry)) (says current Act.Sign cell (now (m .entry))) r (now (out .exit)) ⌝ }
 {
     let sum = storing::signature_of(cell, m);
-    let high = end.put(reply, (sum / 256) as u8);
-    high.put(reply, (sum % 256) as u8)
+    let high = start.put(out, (sum / 256) as u8);
+    high.put(out, (sum % 256) as u8)
 }
 
-// The reply without its checksum, at the start of `reply`: the request's first bytes, then what the act says.
+// At a writer, the reply without its checksum: the request's first bytes, then what the act says.
 pub(crate) fn put_reply(
     echo: usize,
     act: Act,
     cell: Cell,
     body: &[u8],
     m: &[u8],
-    reply: &mut [u8],
-) -> Cursor
-    requires { ⌜ FitAccepted echo act cell (now body) × (usable current (now m) ≡ true) × (132 ≤ length (now reply)) ⌝ }
-    ensures { λ r. ⌜ Laid 0 (r .at) (now (reply .entry)) (now (reply .exit)) (replyOf current echo act cell (now (body .entry)) (now (m .entry))) ⌝ }
+    out: &mut [u8],
+    start: Writer,
+) -> Writer
+    requires { ⌜ FitAccepted echo act cell (now body) × (usable current (now m) ≡ true) × (start .at + 264 ≤ length (now out)) ⌝ }
+    ensures { λ r. ⌜ Spells start (now (out .entry)) (replyOf current echo act cell (now (body .entry)) (now (m .entry))) r (now (out .exit)) ⌝ }
 {
     let n = 2 + echo;
-    let start = Cursor { at: 0 };
-    let opened = start.put_all(reply, &body[..n]);
+    let echoed = start.put_all(out, &body[..n]);
     match act {
-        Act::Show => show(cell, m, reply, opened),
-        Act::Sign => sign(cell, m, reply, opened),
-        Act::Store(_) => opened,
+        Act::Show => show(cell, m, out, echoed),
+        Act::Sign => sign(cell, m, out, echoed),
+        Act::Store(_) => echoed,
     }
 }
 

@@ -1,6 +1,7 @@
 // Replying to a body: its verdict's number, the reply frame in the output, and the image after it.
 use crate::act::leave;
 use crate::act::put_reply;
+use frame::Writer;
 use image::Cell;
 use output::Answer;
 use rules::Act;
@@ -15,24 +16,16 @@ ghost use Rattle.rules.specs.declared.verdict.Verdict.the-variants.{Accepted};
 ghost use Rattle.rules.specs.Fits.{FitAccepted, FitVerdict};
 ghost use Rattle.command.specs.Reply.{done, sent, Serves};
 
-// The reply is laid down before the image changes. Its array comes in, so that its list stays a name in the proof.
-fn accept(
-    echo: usize,
-    act: Act,
-    cell: Cell,
-    body: &[u8],
-    m: &mut [u8],
-    out: &mut [u8],
-    mut reply: [u8; 132],
-) -> Answer
+// What the reply shows is the image as the request found it.
+fn accept(echo: usize, act: Act, cell: Cell, body: &[u8], m: &mut [u8], out: &mut [u8]) -> Answer
     requires { ⌜ FitAccepted echo act cell (now body) × (usable current (now m) ≡ true) × (269 ≤ length (now out)) ⌝ }
     ensures { λ r. ⌜ Serves (sent (done current (Accepted echo act cell) (now (body .entry)) (now (m .entry))) (now (out .entry)))
         r (now (m .exit)) (now (out .exit)) ⌝ }
 {
-    let end = put_reply(echo, act, cell, body, m, &mut reply);
-    let n = end.at;
+    let start = Writer::begin(out);
+    let last = put_reply(echo, act, cell, body, m, out, start);
     leave(act, cell, body, m);
-    frame::build(&reply[..n], out)
+    last.end(out)
 }
 
 // By its verdict, a body without its checksum, on a usable image.
@@ -42,6 +35,6 @@ pub fn reply_to(verdict: Verdict, body: &[u8], m: &mut [u8], out: &mut [u8]) -> 
 {
     match verdict {
         Verdict::Refused(n) => Answer { number: n, len: 0 },
-        Verdict::Accepted(echo, act, cell) => { accept(echo, act, cell, body, m, out, [0u8; 132]) }
+        Verdict::Accepted(echo, act, cell) => { accept(echo, act, cell, body, m, out) }
     }
 }

@@ -1,18 +1,20 @@
 -- What each test says of the answer. Assumes nothing.
-use mathlib.Core.Path.{_≡_}
+use mathlib.Core.Path.{_≡_, sym}
 use mathlib.Core.List.{List}
 use mathlib.Core.Bool.{Bool, true, false, cond, and-false}
 use Prim.Native.Nat.{ℕ, _+_, _-_, _*_, _%_, _≤_, _<_}
 use native.Mathlib.Omega.{arith}
-use lib.ListN.{length, getD}
+use lib.ListN.{length, getD, take}
 use lib.Dec.{eqb}
-use borrow.Author.Tests.{le-leb, lt-leb, eq-eqb, ne-eqb, eqb-true}
+use borrow.Author.Tests.{le-leb, lt-leb, eq-eqb, eqb-true}
 use Rattle.laws.specs.Checks.{judged, within}
 use Rattle.laws.proofs.Tests.{and-both, within-is, within-in, within-below, within-above}
+use Rattle.output.specs.declared.answer.Answer.{Answer}
 use Rattle.output.specs.Output.{refuse, written}
 use Rattle.frame.specs.Digits.{allDigits}
 use Rattle.frame.specs.Apart.{lengthOk, endsOk, inner, contentsOf, sumOk, frameChecks, apart}
 use Rattle.frame.specs.Built.{frameOf, built}
+use Rattle.frame.specs.Read.{ReadInto}
 
 -- ---- the length
 
@@ -43,14 +45,6 @@ module _ (n : ℕ) where
 -- ---- the ends
 
 module _ (f : List ℕ) where
-  pub ends-first : (getD f 0 0 ≡ 58 → ⊥) → endsOk f ≡ false
-  unfolding endsOk
-  ends-first h = rw (ne-eqb _ 58 h)
-
-  pub ends-second : (getD f (length f - 2) 0 ≡ 13 → ⊥) → endsOk f ≡ false
-  unfolding endsOk
-  ends-second h = rw (ne-eqb _ 13 h, and-false)
-
   pub ends-third : getD f 0 0 ≡ 58 → getD f (length f - 2) 0 ≡ 13 → endsOk f ≡ eqb (getD f (length f - 1) 0) 10
   unfolding endsOk
   ends-third h g = rw (eq-eqb _ 58 h, eq-eqb _ 13 g)
@@ -93,6 +87,17 @@ module _ (f out : List ℕ) where
   pub apart-checked : 132 ≤ length out → apart f out ≡ judged (refuse out) (frameChecks f) (written out (contentsOf f))
   unfolding apart judged
   apart-checked h = rw (le-leb 132 _ h)
+
+-- ---- a frame that was read
+
+module _ (f work : List ℕ) where
+  pub refused-read : (n : ℕ) → 0 < n → ((A : Type 0) (no : ℕ → A) (after : A) → judged no (frameChecks f) after ≡ no n)
+      → ReadInto f (record { number = n; len = 0 }) work
+  refused-read n h reads = record { answer-is = sym (reads Answer _ _); contents-are = λ z. absurd (omega arith) }
+
+  pub passed-read : (k : ℕ) → ((A : Type 0) (no : ℕ → A) (after : A) → judged no (frameChecks f) after ≡ after) → k ≡ length (contentsOf f)
+      → take k work ≡ contentsOf f → ReadInto f (record { number = 0; len = k }) work
+  passed-read k reads l t = record { answer-is = rw l (sym (reads Answer _ _)); contents-are = λ z. t }
 
 -- ---- building
 

@@ -48,7 +48,7 @@ module _ (f : List ℕ) (low : 9 ≤ length f) where
       ∙ bytes-each (inner f) i (omega (arith, length-inner))
       ∙ rw (char-at (2 * i) (omega arith), char-at (2 * i + 1) (omega arith), e)
 
-  module _ (high : length f ≤ 269) (z work : List ℕ) (long : length z ≡ 133) (is : work ≡ lay z 0 (bytesOf (take (length f - 2 - 1) (drop 1 f)))) where
+  module _ (high : length f ≤ 269) (z work : List ℕ) (long : 133 ≤ length z) (is : work ≡ lay z 0 (bytesOf (take (length f - 2 - 1) (drop 1 f)))) where
     is-body : work ≡ lay z 0 (bodyOf f)
     unfolding bodyOf
     is-body = is ∙ ap (λ (s : List ℕ). lay z 0 (bytesOf s)) chars-are

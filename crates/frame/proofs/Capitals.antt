@@ -6,7 +6,7 @@ use Prim.Native.Nat.{ℕ, _-_, _≤_, _<_}
 use native.Mathlib.Omega.{arith}
 use lib.ListN.{length, getD, length-map, List·getD-map}
 use lib.Dec.{eqb}
-use borrow.Author.Tests.{not-true, le-leb, ne-eqb}
+use borrow.Author.Tests.{not-true, ne-eqb}
 use Rattle.laws.specs.Checks.{within, all}
 use Rattle.laws.proofs.Bytes.{slice-map}
 use Rattle.laws.proofs.Tests.{never, and-both, within-is, within-in}
@@ -37,7 +37,7 @@ module _ (c : ℕ) where
   capital-digit : isDigit (capitalOf c) ≡ isDigit c
   capital-digit =
       of-capital (λ k. isDigit k ≡ isDigit c) (λ s. refl)
-      (λ l h. digit-capital (c - 32) (omega arith) (omega arith) ∙ sym (digit-small c l ∙ le-leb c 102 h))
+      (λ l h. digit-capital (c - 32) (omega arith) (omega arith) ∙ sym (digit-small c l h))
 
   capital-value : valueOf (capitalOf c) ≡ valueOf c
   capital-value =
@@ -46,7 +46,7 @@ module _ (c : ℕ) where
 
   -- one that is no digit stays
   pub capital-stays : isDigit c ≡ false → capitalOf c ≡ c
-  capital-stays n = of-capital (λ k. k ≡ c) (λ s. refl) (λ l h. absurd (never (sym n ∙ (digit-small c l ∙ le-leb c 102 h))))
+  capital-stays n = of-capital (λ k. k ≡ c) (λ s. refl) (λ l h. absurd (never (sym n ∙ digit-small c l h)))
 
   -- the ends of a frame are no letters
   capital-end : (e : ℕ) → e < 65 → eqb (capitalOf c) e ≡ eqb c e

@@ -2,16 +2,15 @@
 use mathlib.Core.Path.{_≡_, refl}
 use mathlib.Core.Logic.{inl, inr, _⊎_}
 use mathlib.Core.List.{List, [], _∷_}
-use mathlib.Core.Bool.{Bool, true, false, _&&_, _||_}
+use mathlib.Core.Bool.{true, false, _||_}
 use Prim.Native.Nat.{ℕ, zero, suc, _+_, _-_, _*_, _≤_, _<_}
 use native.Mathlib.Nat.{not-suc-le-zero}
 use native.Mathlib.Omega.{arith}
 use lib.ListN.{length, getD, drop, length-drop}
-use lib.Dec.{leb}
-use borrow.Author.Tests.{lt-ltb, le-ltb, le-leb}
+use borrow.Author.Tests.{lt-ltb, le-ltb}
 use Rattle.laws.specs.Checks.{within, all}
 use Rattle.laws.proofs.Tests.{and-both, or-either, within-is, within-in, within-below, within-above}
-use Rattle.laws.proofs.Walks.{next, next2, none-left}
+use Rattle.laws.proofs.Walks.{next2, none-left}
 use Rattle.frame.specs.Digits.{isSmall, isDigit, allDigits, valueOf, charOf, bytesOf}
 
 -- ---- which characters are digits
@@ -26,30 +25,17 @@ module _ (c : ℕ) where
   pub small-below : c < 97 → isSmall c ≡ false
   small-below h = within-below 97 102 c h
 
-  outside : within 48 57 c ≡ false → within 65 70 c ≡ false → isSmall c ≡ false → isDigit c ≡ false
-  unfolding isDigit
-  outside d k s = rw (d, k, s)
-
-  pub digit-below : c < 48 → isDigit c ≡ false
-  digit-below h = outside (within-below 48 57 c h) (within-below 65 70 c (omega arith)) (small-below (omega arith))
-
   pub digit-decimal : 48 ≤ c → c ≤ 57 → isDigit c ≡ true
   unfolding isDigit
   digit-decimal h g = rw (within-in 48 57 c h g)
-
-  pub digit-between : 57 < c → c < 65 → isDigit c ≡ false
-  digit-between h g = outside (within-above 48 57 c h) (within-below 65 70 c g) (small-below (omega arith))
 
   pub digit-capital : 65 ≤ c → c ≤ 70 → isDigit c ≡ true
   unfolding isDigit
   digit-capital h g = rw (within-above 48 57 c (omega arith), within-in 65 70 c h g)
 
-  pub digit-past : 70 < c → c < 97 → isDigit c ≡ false
-  digit-past h g = outside (within-above 48 57 c (omega arith)) (within-above 65 70 c h) (small-below g)
-
-  pub digit-small : 97 ≤ c → isDigit c ≡ leb c 102
-  unfolding isDigit within
-  digit-small h = rw (within-above 48 57 c (omega arith), within-above 65 70 c (omega arith), le-leb 97 c h)
+  pub digit-small : 97 ≤ c → c ≤ 102 → isDigit c ≡ true
+  unfolding isDigit
+  digit-small h g = rw (within-above 48 57 c (omega arith), within-above 65 70 c (omega arith), within-in 97 102 c h g)
 
   pub digit-is : isDigit c ≡ true → Digit c
   unfolding isDigit
@@ -104,10 +90,6 @@ digit-at (c ∷ s) zero d h = and-both (isDigit c) (allDigits s) d .0
 digit-at (c ∷ s) (suc i) d h = digit-at s i (and-both (isDigit c) (allDigits s) d .1) (omega arith)
 
 module _ (s : List ℕ) (i : ℕ) where
-  pub all-next : (t : Bool) → isDigit (getD s i 0) ≡ t → i < length s → allDigits (drop i s) ≡ (t && allDigits (drop (i + 1) s))
-  unfolding all
-  all-next t e h = rw (next s i h, e)
-
   pub all-done : length s ≤ i → allDigits (drop i s) ≡ true
   unfolding all
   all-done h = rw (none-left s i h)

@@ -1,14 +1,20 @@
--- Laws of what a cursor lays: characters, and a whole frame. Assumes nothing.
-use mathlib.Core.Path.{_≡_, refl}
+-- Laws of what a writer lays: characters, and a whole frame. Assumes nothing.
+use mathlib.Core.Path.{_≡_, refl, sym}
 use mathlib.Core.List.{List, [], _∷_, _++_, append-assoc}
 use Prim.Native.Nat.{ℕ, _+_, _*_, _≤_, _<_}
 use native.Mathlib.Omega.{arith}
 use lib.ListN.{length, getD, drop, length-append}
+use Rattle.laws.specs.Bytes.{sumOf}
+use Rattle.laws.proofs.Sums.{sum-append}
 use Rattle.laws.proofs.Walks.{next, none-left}
+use Rattle.output.specs.declared.answer.Answer.{Answer}
 use Rattle.output.specs.Cursor.{Laid}
-use Rattle.output.proofs.Laying.{laid-then}
-use Rattle.frame.specs.Digits.{charsOf, checksumOf}
+use Rattle.output.specs.Output.{written, Does}
+use Rattle.output.proofs.Laying.{laid-none, laid-then, laid-long}
+use Rattle.frame.specs.declared.writer.Writer.{Writer}
+use Rattle.frame.specs.Digits.{charsOf, checkOf, checksumOf}
 use Rattle.frame.specs.Built.{frameOf}
+use Rattle.frame.specs.Written.{Begins, Spells, Ends}
 
 -- ---- characters
 
@@ -31,6 +37,23 @@ unfolding charsOf
 chars-append [] b = refl
 chars-append (x ∷ a) b = rw (chars-append a b)
 
+-- ---- bytes that are spelt one after another
+
+pub spells-none : (w : Writer) (o : List ℕ) → w .total < 256 → Spells w o [] w o
+unfolding charsOf sumOf
+spells-none w o h = record { spelt = laid-none _ _; total-is = omega arith }
+
+pub spells-then : (w w₁ w₂ : Writer) (o o₁ o₂ a b : List ℕ) → Spells w o a w₁ o₁ → Spells w₁ o₁ b w₂ o₂ → Spells w o (a ++ b) w₂ o₂
+spells-then w w₁ w₂ o o₁ o₂ a b p q =
+    record {
+      spelt = rw chars-append (laid-then _ _ _ _ _ _ _ _ (p .spelt) (q .spelt));
+      total-is = omega (arith, p .total-is, q .total-is, sum-append a b);
+    }
+
+-- where the writer comes to stand, and how long the output stays
+pub spells-past : {w w′ : Writer} {o o′ bytes : List ℕ} → Spells w o bytes w′ o′ → (w′ .at ≡ w .at + 2 * length bytes) × (length o′ ≡ length o)
+spells-past {bytes} s = (omega (arith, s .spelt .past, length-chars bytes), laid-long (s .spelt))
+
 -- ---- a frame
 
 pub length-frame : (c : List ℕ) → length (frameOf c) ≡ 2 * length c + 5
@@ -39,13 +62,16 @@ length-frame c =
     let b : List ℕ = c ++ (checksumOf c ∷ []) in
     omega (arith, length-append (charsOf b) (13 ∷ (10 ∷ [])), length-chars b, length-append c (checksumOf c ∷ []))
 
--- the five steps of a cursor that lay one
-module _ (c o o₁ o₂ o₃ o₄ o₅ : List ℕ) (k₁ k₂ k₃ k₄ k₅ s : ℕ) (sum : s ≡ checksumOf c) where
-  joined : (((58 ∷ charsOf c) ++ charsOf (s ∷ [])) ++ (13 ∷ [])) ++ (10 ∷ []) ≡ frameOf c
-  unfolding frameOf
-  joined = rw (sum, chars-append) (append-assoc (58 ∷ (charsOf c ++ charsOf (checksumOf c ∷ []))) (13 ∷ []) (10 ∷ []))
+joined : (c : List ℕ) (k : ℕ) → k ≡ checksumOf c → (58 ∷ charsOf c) ++ (charsOf (k ∷ []) ++ (13 ∷ (10 ∷ []))) ≡ frameOf c
+unfolding frameOf
+joined c k e = rw (e, chars-append) (sym (append-assoc (58 ∷ charsOf c) (charsOf (checksumOf c ∷ [])) (13 ∷ (10 ∷ []))))
 
-  pub frame-laid : Laid 0 k₁ o o₁ (58 ∷ []) → Laid k₁ k₂ o₁ o₂ (charsOf c) → Laid k₂ k₃ o₂ o₃ (charsOf (s ∷ []))
-      → Laid k₃ k₄ o₃ o₄ (13 ∷ []) → Laid k₄ k₅ o₄ o₅ (10 ∷ []) → Laid 0 k₅ o o₅ (frameOf c)
-  frame-laid first body check cr lf =
-      rw (← joined) (laid-then _ _ _ _ _ _ _ _ (laid-then _ _ _ _ _ _ _ _ (laid-then _ _ _ _ _ _ _ _ (laid-then _ _ _ _ _ _ _ _ first body) check) cr) lf)
+-- begun, spelt and ended it is written
+pub frame-written : (c o o₁ o₂ o₃ : List ℕ) (w w′ : Writer) (r : Answer) → Begins o w o₁ → Spells w o₁ c w′ o₂ → Ends w′ o₂ r o₃
+    → Does (written o (frameOf c)) r o₃
+unfolding checksumOf
+frame-written c o o₁ o₂ o₃ w w′ r b s e =
+    let k : checkOf (w′ .total) ≡ checksumOf c = omega (arith, b .total-is, s .total-is) in
+    let l : Laid 0 (r .len) o o₃ (frameOf c) =
+    rw (← joined c _ k) (laid-then _ _ _ _ _ _ _ _ (laid-then _ _ _ _ _ _ _ _ (b .opened) (s .spelt)) (e .closed)) in
+    record { number-is = e .number-is; len-is = omega (arith, l .past); out-is = l .laid }

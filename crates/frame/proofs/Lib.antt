@@ -1,5 +1,6 @@
 pub mod Ranges
 pub mod Chars
+pub mod Table
 pub mod FrameLaid
 pub mod Answers
 pub mod Capitals

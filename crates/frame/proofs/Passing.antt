@@ -1,18 +1,20 @@
--- Frames that pass checks 3 to 6, and those that do not: what a caller of taking apart has in hand. Assumes nothing.
-use mathlib.Core.Path.{_≡_, refl, sym, _∙_}
+-- Frames that pass checks 3 to 6, and those that do not: what a caller of reading and of taking apart has in hand. Assumes nothing.
+use mathlib.Core.Path.{_≡_, refl, sym, ap, _∙_}
 use mathlib.Core.List.{List}
 use mathlib.Core.Bool.{true}
 use Prim.Native.Nat.{ℕ, _-_, _%_, _≤_}
 use native.Mathlib.Omega.{arith}
-use lib.ListN.{length}
+use lib.ListN.{length, take}
 use borrow.Author.Tests.{leb-true}
 use Rattle.laws.specs.Checks.{judged, firstFailing, AllPass, risingFrom}
 use Rattle.laws.proofs.Bytes.{Bytes, bytes-slice}
 use Rattle.laws.proofs.Checks as Checks
 use Rattle.laws.proofs.Checks.{Judged, judge, judged-number, judged-passed, none-fails}
+use Rattle.output.specs.declared.answer.Answer.{Answer}
 use Rattle.output.specs.Output.{OutputAfter, refuse, written}
 use Rattle.frame.specs.Digits.{allDigits}
 use Rattle.frame.specs.Apart.{endsOk, inner, bodyOf, contentsOf, sumOk, frameChecks, apartChecks, apart}
+use Rattle.frame.specs.Read.{ReadInto}
 use Rattle.frame.proofs.Body.{length-contents}
 use Rattle.frame.proofs.Answers.{length-is, apart-checked}
 use Rattle.frame.proofs.Coding.{bytes-low}
@@ -54,29 +56,37 @@ module _ (f : List ℕ) where
 pub apart-passed : (f out : List ℕ) → 132 ≤ length out → AllPass (frameChecks f) → apart f out ≡ written out (contentsOf f)
 apart-passed f out room p = apart-checked f out room ∙ judged-passed (refuse out) (frameChecks f) (written out (contentsOf f)) p
 
--- ---- taking apart, with room for the contents: they are written, or one number is the answer of every reading of the checks
+-- ---- a frame that was read into a work array
 
-pub data Taken (f out : List ℕ) : Type 1 where
-  passed : AllPass (frameChecks f) → apart f out ≡ written out (contentsOf f) → Taken f out
-  failed : (n : ℕ) → (n ≡ 0 → ⊥) → firstFailing (frameChecks f) ≡ n → apart f out ≡ refuse out n
-      → ((A : Type 0) (no : ℕ → A) (after : A) → judged no (frameChecks f) after ≡ no n) → Taken f out
+module _ {f w : List ℕ} {r : Answer} (d : ReadInto f r w) where
+  -- a number that is not 0 is the answer of every reading of the checks
+  pub read-refuses : (r .number ≡ 0 → ⊥) → (A : Type 0) (refusal : ℕ → A) (after : A) → judged refusal (frameChecks f) after ≡ refusal (r .number)
+  read-refuses n = go (judge (frameChecks f))
+    where
+      go : Judged (frameChecks f) → (A : Type 0) (refusal : ℕ → A) (after : A) → judged refusal (frameChecks f) after ≡ refusal (r .number)
+      go (Checks.passed p) A refusal after = absurd (n (ap (λ (a : Answer). a .number) (d .answer-is ∙ judged-passed _ (frameChecks f) _ p)))
+      go (Checks.failed c i h) A refusal after = h A refusal after ∙ ap refusal (sym (ap (λ (a : Answer). a .number) (d .answer-is ∙ h Answer _ _)))
 
-pub taken : (f out : List ℕ) → 132 ≤ length out → Taken f out
-unfolding firstFailing
-taken f out room = go (judge (frameChecks f))
-  where
-    go : Judged (frameChecks f) → Taken f out
-    go (Checks.passed p) = passed p (apart-passed f out room p)
-    go (Checks.failed c i h) = failed (c .number) some first (apart-checked f out room ∙ h _ (refuse out) (written out (contentsOf f))) h
-      where
-        first : firstFailing (frameChecks f) ≡ c .number
-        first = h ℕ (λ n. n) 0
+  -- and nothing is reported with it
+  pub read-refused : (r .number ≡ 0 → ⊥) → r .len ≡ 0
+  read-refused n = go (judge (frameChecks f))
+    where
+      go : Judged (frameChecks f) → r .len ≡ 0
+      go (Checks.passed p) = absurd (n (ap (λ (a : Answer). a .number) (d .answer-is ∙ judged-passed _ (frameChecks f) _ p)))
+      go (Checks.failed c i h) = ap (λ (a : Answer). a .len) (d .answer-is ∙ h Answer _ _)
 
-        some : c .number ≡ 0 → ⊥
-        some z =
-            let p = none-fails 2 (frameChecks f) (rising f) (first ∙ z) in
-            let a = sym (judged-passed (λ m. 1) (frameChecks f) 0 p) ∙ h ℕ (λ m. 1) 0 in
-            omega arith
+  -- with 0 the checks passed, and the contents stand in the array
+  module _ (zero-is : r .number ≡ 0) where
+    pub read-passes : AllPass (frameChecks f)
+    read-passes =
+        let n = judged-number (λ (a : Answer). a .number) _ (frameChecks f) _ (λ k. refl) (λ p. refl) in
+        none-fails 2 (frameChecks f) (rising f) (sym n ∙ sym (ap (λ (a : Answer). a .number) (d .answer-is)) ∙ zero-is)
+
+    pub read-long : (r .len ≡ length (contentsOf f)) × (r .len ≤ 132) × (length (take (r .len) w) ≡ r .len)
+    read-long =
+        let l = ap (λ (a : Answer). a .len) (d .answer-is ∙ judged-passed _ (frameChecks f) _ read-passes) in
+        let c = contents-length f read-passes in
+        (l, omega arith, ap length (d .contents-are zero-is) ∙ sym l)
 
 -- an answer of number 0 says that all checks passed, room for the contents among them
 pub taken-0 : (f out : List ℕ) → apart f out .number ≡ 0 → (132 ≤ length out) × AllPass (frameChecks f)

@@ -41,5 +41,8 @@ bytesOf (x ∷ []) = []
 bytesOf (x ∷ (y ∷ cs)) = (16 * valueOf x + valueOf y) ∷ bytesOf cs
 
 -- the checksum: the 8-bit sum inverted, which is 255 less it, plus 1, kept to 8 bits. A sum of 0 gives 0
+abbrev pub checkOf : ℕ → ℕ
+checkOf total = (255 - total + 1) % 256
+
 unfoldable pub checksumOf : List ℕ → ℕ
-checksumOf bytes = (255 - sumOf bytes % 256 + 1) % 256
+checksumOf bytes = checkOf (sumOf bytes % 256)

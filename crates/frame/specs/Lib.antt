@@ -2,3 +2,5 @@ pub mod Digits
 pub mod Capitals
 pub mod Apart
 pub mod Built
+pub mod Read
+pub mod Written

@@ -1,56 +1,10 @@
-// Characters and bytes, and the checksum.
+// Characters and bytes.
 ghost use mathlib.Core.Path.{_≡_};
 ghost use mathlib.Core.Bool.{true};
-ghost use Prim.Native.Nat.{_<_, _≤_};
+ghost use Prim.Native.Nat.{_*_, _%_, _<_, _≤_};
 ghost use lib.ListN.{length};
-ghost use Rattle.laws.specs.Bytes.{lay};
-ghost use Rattle.frame.specs.Digits.{isDigit, allDigits, valueOf, charOf, bytesOf, checksumOf};
-use crate::total::total_of;
-
-// Early returns, so that each test stands as a fact in the proof.
-fn is_digit(c: u8) -> bool
-    ensures { λ r. ⌜ r ≡ isDigit c ⌝ }
-{
-    if c < 48 {
-        return false;
-    }
-    if c <= 57 {
-        return true;
-    }
-    if c < 65 {
-        return false;
-    }
-    if c <= 70 {
-        return true;
-    }
-    if c < 97 {
-        return false;
-    }
-    c <= 102
-}
-
-pub(crate) fn all_digits(s: &[u8]) -> bool
-    ensures { λ r. ⌜ r ≡ allDigits (now (s .entry)) ⌝ }
-{
-    let mut i = 0;
-    while i < s.len() {
-        if !is_digit(s[i]) {
-            return false;
-        }
-        i += 1;
-    }
-    true
-}
-
-fn value_of(c: u8) -> u8
-    requires { ⌜ isDigit c ≡ true ⌝ }
-    ensures { λ r. ⌜ (r ≡ valueOf c) × (r < 16) ⌝ }
-{
-    if c < 58 {
-        return c - 48;
-    }
-    if c < 97 { c - 55 } else { c - 87 }
-}
+ghost use Rattle.frame.specs.Digits.{charOf};
+ghost use Rattle.frame.specs.Read.{readsDigits, Decoded};
 
 pub(crate) fn char_of(h: u8) -> u8
     requires { ⌜ h < 16 ⌝ }
@@ -59,23 +13,49 @@ pub(crate) fn char_of(h: u8) -> u8
     if h < 10 { h + 48 } else { h + 55 }
 }
 
-// The bytes that the characters stand for, over the first bytes of `work`. It is handed in, so that its list stays a name in the proof.
-pub(crate) fn bytes_of(s: &[u8], mut work: [u8; 133]) -> [u8; 133]
-    requires { ⌜ (length (now s) ≤ 266) × (allDigits (now s) ≡ true) ⌝ }
-    ensures { λ r. ⌜ r ≡ lay work 0 (bytesOf (now (s .entry))) ⌝ }
+// Digits are told and read in one pass: by the table a digit stands for a number below 16, and no other character does. Nothing is left early, so that
+// a long frame costs no guess at its end. The table is handed in, so that its list stays a name in the proof.
+fn decode_by(s: &[u8], table: &[u8; 256], work: &mut [u8]) -> bool
+    requires { ⌜ (length (now s) ≤ 2 * length (now work)) × (length (now s) % 2 ≡ 0) × (readsDigits (now table) ≡ true) ⌝ }
+    ensures { λ r. ⌜ Decoded (now (s .entry)) (now (work .entry)) r (now (work .exit)) ⌝ }
 {
+    let mut seen = 0u8;
     let mut i = 0;
     let mut k = 0;
     while i + 1 < s.len() {
-        work[k] = 16 * value_of(s[i]) + value_of(s[i + 1]);
+        let h = table[s[i] as usize];
+        let l = table[s[i + 1] as usize];
+        seen = seen | h | l;
+        work[k] = (h << 4) | l;
         i += 2;
         k += 1;
     }
-    work
+    seen < 16
 }
 
-pub(crate) fn checksum_of(s: &[u8]) -> u8
-    ensures { λ r. ⌜ r ≡ checksumOf (now (s .entry)) ⌝ }
+// Whether all characters are digits; if so, the bytes that they stand for lie over the first bytes of `work`.
+pub(crate) fn decode(s: &[u8], work: &mut [u8]) -> bool
+    requires { ⌜ (length (now s) ≤ 2 * length (now work)) × (length (now s) % 2 ≡ 0) ⌝ }
+    ensures { λ r. ⌜ Decoded (now (s .entry)) (now (work .entry)) r (now (work .exit)) ⌝ }
 {
-    ((255 - total_of(s) as u16 + 1) % 256) as u8
+    decode_by(
+        s,
+        b"\xff\xff\xff\xff\xff\xff\xff\xff\xff\xff\xff\xff\xff\xff\xff\xff\
+          \xff\xff\xff\xff\xff\xff\xff\xff\xff\xff\xff\xff\xff\xff\xff\xff\
+          \xff\xff\xff\xff\xff\xff\xff\xff\xff\xff\xff\xff\xff\xff\xff\xff\
+          \x00\x01\x02\x03\x04\x05\x06\x07\x08\x09\xff\xff\xff\xff\xff\xff\
+          \xff\x0A\x0B\x0C\x0D\x0E\x0F\xff\xff\xff\xff\xff\xff\xff\xff\xff\
+          \xff\xff\xff\xff\xff\xff\xff\xff\xff\xff\xff\xff\xff\xff\xff\xff\
+          \xff\x0a\x0b\x0c\x0d\x0e\x0f\xff\xff\xff\xff\xff\xff\xff\xff\xff\
+          \xff\xff\xff\xff\xff\xff\xff\xff\xff\xff\xff\xff\xff\xff\xff\xff\
+          \xff\xff\xff\xff\xff\xff\xff\xff\xff\xff\xff\xff\xff\xff\xff\xff\
+          \xff\xff\xff\xff\xff\xff\xff\xff\xff\xff\xff\xff\xff\xff\xff\xff\
+          \xff\xff\xff\xff\xff\xff\xff\xff\xff\xff\xff\xff\xff\xff\xff\xff\
+          \xff\xff\xff\xff\xff\xff\xff\xff\xff\xff\xff\xff\xff\xff\xff\xff\
+          \xff\xff\xff\xff\xff\xff\xff\xff\xff\xff\xff\xff\xff\xff\xff\xff\
+          \xff\xff\xff\xff\xff\xff\xff\xff\xff\xff\xff\xff\xff\xff\xff\xff\
+          \xff\xff\xff\xff\xff\xff\xff\xff\xff\xff\xff\xff\xff\xff\xff\xff\
+          \xff\xff\xff\xff\xff\xff\xff\xff\xff\xff\xff\xff\xff\xff\xff\xff",
+        work,
+    )
 }

@@ -29,10 +29,10 @@ pub fn serve(frame: &[u8], switch: Switch, m: &mut [u8], out: &mut [u8]) -> Answ
         return Answer { number: 2, len: 0 };
     }
     let mut work = [0u8; 133];
-    let taken = frame::take_apart(frame, &mut work);
+    let taken = frame::read_into(frame, &mut work);
     let number = taken.number;
     if number != 0 {
-        return Answer { number, len: 0 };
+        return taken;
     }
     let n = taken.len;
     let body = &work[..n];

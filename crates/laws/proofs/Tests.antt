@@ -43,10 +43,6 @@ within-above a b n h = rw (lt-leb _ _ h, and-false)
 -- ---- a test at each number below n
 
 module _ (t : ℕ → Bool) where
-  pub every-none : every t 0 ≡ true
-  unfolding every
-  every-none = refl
-
   pub every-next : (i : ℕ) → every t i ≡ true → t i ≡ true → every t (i + 1) ≡ true
   unfolding every
   every-next i h e = rw (add-one, e, h)

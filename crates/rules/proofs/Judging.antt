@@ -1,11 +1,12 @@
 -- What the code that judges a body cites: the fourteen commands, reserve bytes and rising rows, as a loop or a match meets them. Assumes nothing.
 use mathlib.Core.Path.{_≡_, refl, sym, ap, _∙_}
-use mathlib.Core.Bool.{Bool, true, false, _&&_, and-true, and-false}
+use mathlib.Core.Bool.{Bool, true, _&&_, and-true, and-false}
 use mathlib.Core.List.{List, [], _∷_}
-use Prim.Native.Nat.{ℕ, suc, _+_, _-_, _*_, _≤_, _<_}
+use Prim.Native.Nat.{ℕ, zero, suc, _+_, _-_, _*_, _≤_, _<_}
 use native.Mathlib.Numerals.{add-one}
 use native.Mathlib.Omega.{arith}
-use lib.ListN.{length, getD, drop, length-drop}
+use lib.ListN.{length, getD, drop, length-drop, List·getD-eq-default}
+use lib.Dec.{eqb}
 use lib.Signed.{ltZ}
 use borrow.Author.Tests.{eq-eqb, ne-eqb}
 use Rattle.laws.proofs.Walks.{next, next2}
@@ -45,24 +46,37 @@ module _ (c : List ℕ) (n : ℕ) (counted : n ≡ byte c 4) where
 -- ---- reserve
 
 module _ (c : List ℕ) (b to : ℕ) where
-  pub blank-next : b ≤ to → byte c b ≡ 0 → blank c (b + 1) to ≡ blank c b to
+  pub blank-by : b ≤ to → blank c b to ≡ (eqb (byte c b) 0 && blank c (b + 1) to)
   unfolding blank zeroFrom
-  blank-next h e =
+  blank-by h =
       let n : to + 1 - b ≡ suc (to - b) = omega arith in
       let m : to + 1 - (b + 1) ≡ to - b = omega arith in
-      rw (n, m, add-one, eq-eqb _ _ e)
-
-  pub blank-fails : b ≤ to → (byte c b ≡ 0 → ⊥) → blank c b to ≡ false
-  unfolding blank zeroFrom
-  blank-fails h e =
-      let n : to + 1 - b ≡ suc (to - b) = omega arith in
-      rw (n, ne-eqb _ _ e)
+      rw (n, m, add-one)
 
   pub blank-done : to < b → blank c b to ≡ true
   unfolding blank zeroFrom
   blank-done h =
       let n : to + 1 - b ≡ 0 = omega arith in
       rw n
+
+-- past its end a body reads as 0, so that no byte there decides
+module _ (c : List ℕ) where
+  zero-past : (n b : ℕ) → length c < b → zeroFrom c b n ≡ true
+  unfolding zeroFrom
+  zero-past zero b h = refl
+  zero-past (suc n) b h =
+      let g : length c ≤ b - 1 = omega arith in
+      rw (List·getD-eq-default c 0 g, zero-past n (suc b) (omega arith))
+
+  zero-short : (n m b : ℕ) → n ≤ m → length c < b + n → zeroFrom c b n ≡ zeroFrom c b m
+  unfolding zeroFrom
+  zero-short zero m b l h = sym (zero-past m b (omega arith))
+  zero-short (suc n) zero b l h = absurd (omega arith)
+  zero-short (suc n) (suc m) b l h = rw (zero-short n m (suc b) (omega arith) (omega arith))
+
+  pub blank-short : (from to : ℕ) → length c ≤ to → blank c from (length c) ≡ blank c from to
+  unfolding blank
+  blank-short from to h = zero-short (length c + 1 - from) (to + 1 - from) from (omega arith) (omega arith)
 
 -- ---- rows
 
@@ -88,12 +102,12 @@ module _ (s : List ℕ) (i : ℕ) where
   abbrev pub colder : Bool
   colder = ltZ (degrees (getD s i 0)) (degrees (getD s (i + 3) 0))
 
-  pub rises-by : i + 3 < length s → (t : Bool) → colder ≡ t → rises (drop i s) ≡ (t && rises (drop (i + 3) s))
+  pub rises-by : i + 3 < length s → rises (drop i s) ≡ (colder && rises (drop (i + 3) s))
   unfolding rises
-  rises-by h t e =
+  rises-by h =
       let f : i + 3 + 1 ≡ i + 4 = omega arith in
       let n : drop (i + 3) s ≡ getD s (i + 3) 0 ∷ drop (i + 4) s = rw (← f) (next s (i + 3) h) in
-      rw (four h, n, e)
+      rw (four h, n)
 
   pub rises-done : length s ≤ i + 3 → rises (drop i s) ≡ true
   rises-done h = few-rows (drop i s) (omega (arith, length-drop i s))

@@ -16,7 +16,7 @@ use Rattle.rules.proofs.Judging.{colder, rises-by, rises-done}
 
 module _ (s : List ℕ) where
   first-rises : (i : ℕ) → i + 3 < length s → rises (drop i s) ≡ true → (colder s i ≡ true) × (rises (drop (i + 3) s) ≡ true)
-  first-rises i l h = and-both (colder s i) (rises (drop (i + 3) s)) (sym (rises-by s i l (colder s i) refl) ∙ h)
+  first-rises i l h = and-both (colder s i) (rises (drop (i + 3) s)) (sym (rises-by s i l) ∙ h)
 
   -- row r, counted from 0, of those that begin at index i, stands at index j
   rises-each : (r i j : ℕ) → j ≡ i + 3 * r → rises (drop i s) ≡ true → j + 3 < length s → colder s j ≡ true
@@ -30,7 +30,7 @@ module _ (s : List ℕ) where
   each-rises (suc n) i h f = go (decLt (i + 3) (length s)) (each-rises n (i + 3) (omega arith) (λ r j e l. f (suc r) j (omega arith) l))
     where
       go : Dec (i + 3 < length s) → rises (drop (i + 3) s) ≡ true → rises (drop i s) ≡ true
-      go (yes l) e = rises-by s i l true (f 0 i (omega arith) l) ∙ e
+      go (yes l) e = rw (rises-by s i l, f 0 i (omega arith) l) e
       go (no l) e = rises-done s i (omega arith)
 
 -- row r, counted from 1, has its temperature at byte 3r + 2, and the next at byte 3r + 5

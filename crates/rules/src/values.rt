@@ -2,7 +2,7 @@
 use crate::names::byte;
 use crate::rule::Values;
 ghost use mathlib.Core.Path.{_≡_};
-ghost use Prim.Native.Nat.{_+_, _≤_};
+ghost use Prim.Native.Nat.{_≤_};
 ghost use lib.ListN.{length, drop};
 ghost use lib.Signed.{ltZ};
 ghost use Rattle.laws.specs.Checks.{within};
@@ -14,19 +14,30 @@ fn is_within(low: u8, high: u8, x: u8) -> bool
     (low <= x) & (x <= high)
 }
 
-// Bytes from..to of a body are all 0.
-fn is_blank(body: &[u8], from: usize, to: usize) -> bool
-    requires { ⌜ (1 ≤ from) × (from ≤ to) × (to ≤ 132) ⌝ }
+// Bytes from..to of a body that has them are all 0. The loop goes on once one is not, so that the compiler can take several at a time.
+fn all_zero(body: &[u8], from: usize, to: usize) -> bool
+    requires { ⌜ (1 ≤ from) × (to ≤ length (now body)) ⌝ }
     ensures { λ r. ⌜ r ≡ blank (now (body .entry)) from to ⌝ }
 {
+    let mut ok = true;
     let mut b = from;
     while b <= to {
-        if byte(body, b) != 0 {
-            return false;
-        }
+        ok = ok & (body[b - 1] == 0);
         b += 1;
     }
-    true
+    ok
+}
+
+// Bytes from..to of a body are all 0; past its end it reads as 0. Its length is asked once and not at each byte, for the same reason.
+fn is_blank(body: &[u8], from: usize, to: usize) -> bool
+    requires { ⌜ 1 ≤ from ⌝ }
+    ensures { λ r. ⌜ r ≡ blank (now (body .entry)) from to ⌝ }
+{
+    if to <= body.len() {
+        all_zero(body, from, to)
+    } else {
+        all_zero(body, from, body.len())
+    }
 }
 
 fn constants_ok(body: &[u8]) -> bool
@@ -73,22 +84,19 @@ fn is_colder(a: u8, b: u8) -> bool
 
 // The temperatures rise from row to row; rows of three bytes start at byte 5.
 fn rows_rise(body: &[u8]) -> bool
-    requires { ⌜ length (now body) ≤ 132 ⌝ }
     ensures { λ r. ⌜ r ≡ rises (drop 4 (now (body .entry))) ⌝ }
 {
+    let mut ok = true;
     let mut i = 4;
     while i + 3 < body.len() {
-        if !is_colder(body[i], body[i + 3]) {
-            return false;
-        }
+        ok = ok & is_colder(body[i], body[i + 3]);
         i += 3;
     }
-    true
+    ok
 }
 
 // Check 11.
 pub(crate) fn values_ok(values: Values, body: &[u8]) -> bool
-    requires { ⌜ length (now body) ≤ 132 ⌝ }
     ensures { λ r. ⌜ r ≡ valuesOk values (now (body .entry)) ⌝ }
 {
     match values {

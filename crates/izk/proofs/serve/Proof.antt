@@ -3,17 +3,16 @@
 use mathlib.Core.Path.{_≡_, sym, _∙_}
 use mathlib.Core.Bool.{true}
 use native.Mathlib.Omega.{arith}
-use lib.Dec.{lit≤}
-use lib.Seq.{length-take-le}
 use borrow.Author.Needs.{needs}
 use borrow.Author.Tests.{not-true, not-false}
+use Rattle.frame.proofs.Passing.{read-long}
 use Rattle.image.specs.Version.{current}
 use Rattle.image.specs.Usable.{usable}
 use Rattle.image.proofs.UsableFacts.{facts}
 use Rattle.rules.proofs.Fit.{recognised-fits}
 use Rattle.izk.specs.Heard.{heard}
 use Rattle.izk.proofs.Serving.{unusable-is-1, no-room-is-2}
-use Rattle.izk.proofs.Taking.{opened, refused-serves, taken-refuses, contents-short, answered-serves}
+use Rattle.izk.proofs.Taking.{refused-serves, read-serves-refusal, read-serves}
 use Rattle.izk.proofs.serve.Statement.{statement}
 use Rattle.izk.proofs.serve.Tie as tie
 
@@ -34,11 +33,11 @@ returns-2 c =
     let u = sym (c .before .before .is-usable .ensures) ∙ not-false _ (c .before .if1 .left) in
     refused-serves _ _ _ _ 2 (no-room-is-2 (heard _) current _ _ _ u (c .if2 .taken))
 
-slice-aggregate-take-apart : tie.Need-slice-aggregate-take-apart
-slice-aggregate-take-apart c = search needs
+slice-aggregate-read-into : tie.Need-slice-aggregate-read-into
+slice-aggregate-read-into c = search needs
 
-take-apart-requires : tie.Need-take-apart-requires
-take-apart-requires c κs = search needs
+read-into-requires : tie.Need-read-into-requires
+read-into-requires c κs = search needs
 
 same-length-3 : tie.Need-same-length-3
 same-length-3 c = search needs
@@ -50,13 +49,13 @@ returns-3 : tie.Need-returns-3
 returns-3 c =
     let t = c .before .before in
     let e = t .before .before in
-    refused-serves _ _ _ _ _ (taken-refuses _ _ _ _ (lit≤ tt) (t .take-apart .ensures) _ _ _ (c .if3 .taken) (is-usable e) (e .if2 .left))
+    read-serves-refusal (t .read-into .ensures) _ _ _ (c .if3 .taken) (is-usable e) (e .if2 .left)
 
 array-share-prefix-work : tie.Need-array-share-prefix-work
-array-share-prefix-work c = opened _ _ _ _ (lit≤ tt) (c .before .before .take-apart .ensures) (c .if3 .left) .fits
+array-share-prefix-work c = omega (arith, read-long (c .before .before .read-into .ensures) (c .if3 .left))
 
 slice-aggregate-body : tie.Need-slice-aggregate-body
-slice-aggregate-body c = sym (length-take-le _ _ (opened _ _ _ _ (lit≤ tt) (c .before .before .before .take-apart .ensures) (c .before .if3 .left) .fits))
+slice-aggregate-body c = sym (read-long (c .before .before .before .read-into .ensures) (c .before .if3 .left) .2)
 
 slice-read-recognise : tie.Need-slice-read-recognise
 slice-read-recognise c =
@@ -66,7 +65,7 @@ slice-read-recognise c =
 recognise-requires : tie.Need-recognise-requires
 recognise-requires c κs =
     let n = c .before .before in
-    contents-short _ _ _ _ (lit≤ tt) (n .before .before .take-apart .ensures) (n .if3 .left)
+    omega (arith, read-long (n .before .before .read-into .ensures) (n .if3 .left))
 
 reply-to-requires : tie.Need-reply-to-requires
 reply-to-requires c κs =
@@ -88,7 +87,7 @@ returns-4 c =
     let t = n .before .before in
     let e = t .before .before in
     let answer = rw (v .recognise .ensures) at (k .reply-to .ensures) in
-    answered-serves _ _ _ _ (lit≤ tt) (t .take-apart .ensures) (n .if3 .left) _ _ _ _ _ _ (is-usable e) (e .if2 .left) answer
+    read-serves (t .read-into .ensures) (n .if3 .left) _ _ _ _ _ _ (is-usable e) (e .if2 .left) answer
 
 pub serve-spec : {M : Type 1} → statement M
 serve-spec =
@@ -99,8 +98,8 @@ serve-spec =
     returns
     same-length-2
     returns-2
-    slice-aggregate-take-apart
-    take-apart-requires
+    slice-aggregate-read-into
+    read-into-requires
     same-length-3
     returns-3
     array-share-prefix-work

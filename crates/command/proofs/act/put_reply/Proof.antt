@@ -1,8 +1,8 @@
--- The echo is laid first, and behind it what the act says; both have room since an accepted body's act fits. Assumes nothing.
+-- The echo is spelt first, and behind it what the act says; both have room since an accepted body's act fits. Assumes nothing.
 use mathlib.Core.Path.{sym}
 use native.Mathlib.Omega.{arith}
 use borrow.Author.Needs.{needs}
-use Rattle.output.proofs.Laying.{laid-none, laid-then, laid-long}
+use Rattle.frame.proofs.FrameLaid.{spells-none, spells-then, spells-past}
 use Rattle.command.proofs.Doing.{shows, signs, opening}
 use Rattle.command.proofs.act.put_reply.Statement.{statement}
 use Rattle.command.proofs.act.put_reply.Tie as tie
@@ -25,7 +25,7 @@ show-requires c κs =
     let p = o .put-all .ensures in
     let s = o .before .before .before .before .before .before in
     let f = shows (s .pre .0) (c .before .enum-told .given .1) in
-    (f .0, s .pre .1, omega (arith, p .past, laid-long p, opening (s .pre .0), f .1, s .pre .2))
+    (f .0, s .pre .1, omega (arith, spells-past p, opening (s .pre .0), f .1, s .pre .2))
 
 enum-told-2 : tie.Need-enum-told-2
 enum-told-2 c = search needs
@@ -36,7 +36,7 @@ sign-requires c κs =
     let p = o .put-all .ensures in
     let s = o .before .before .before .before .before .before in
     let f = signs (s .pre .0) (c .before .enum-told2 .given .1) in
-    (f .0, s .pre .1, omega (arith, p .past, laid-long p, opening (s .pre .0), f .1, s .pre .2))
+    (f .0, s .pre .1, omega (arith, spells-past p, opening (s .pre .0), f .1, s .pre .2))
 
 enum-told-3 : tie.Need-enum-told-3
 enum-told-3 c = search needs
@@ -48,7 +48,7 @@ returns : tie.Need-returns
 returns c =
     let t = c .before .before .before .before in
     let p = t .before .before .before .before .put-all .ensures in
-    rw (t .enum-told .given .1) (laid-then _ _ _ _ _ _ _ _ p (c .before .before .show .ensures))
+    rw (t .enum-told .given .1) (spells-then _ _ _ _ _ _ _ _ p (c .before .before .show .ensures))
 
 same-length-2 : tie.Need-same-length-2
 same-length-2 c = search needs
@@ -57,7 +57,7 @@ returns-2 : tie.Need-returns-2
 returns-2 c =
     let t = c .before .before .before .before in
     let p = t .before .before .before .before .put-all .ensures in
-    rw (t .enum-told2 .given .1) (laid-then _ _ _ _ _ _ _ _ p (c .before .before .sign .ensures))
+    rw (t .enum-told2 .given .1) (spells-then _ _ _ _ _ _ _ _ p (c .before .before .sign .ensures))
 
 same-length-3 : tie.Need-same-length-3
 same-length-3 c = search needs
@@ -65,7 +65,7 @@ same-length-3 c = search needs
 returns-3 : tie.Need-returns-3
 returns-3 c =
     let p = c .before .before .before .before .put-all .ensures in
-    rw (c .enum-told3 .given .1) (laid-then _ _ _ _ _ _ _ _ p (laid-none _ _))
+    rw (c .enum-told3 .given .1) (spells-then _ _ _ _ _ _ _ _ p (spells-none _ _ (omega (arith, p .total-is))))
 
 pub put-reply-spec : {M : Type 1} → statement M
 put-reply-spec =

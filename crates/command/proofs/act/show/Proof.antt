@@ -16,8 +16,8 @@ shared-slice-read-extent c =
 extent-requires : tie.Need-extent-requires
 extent-requires c κs = search needs
 
-add-e : tie.Need-add-e
-add-e c =
+add-to : tie.Need-add-to
+add-to c =
     let s = c .before .before .before .before .before in
     omega (arith, shown-inside (s .args .cell) (s .args .m .now) (s .pre .1) (s .pre .0) (c .before .before .offset .ensures) (c .extent .ensures))
 
@@ -61,7 +61,7 @@ show-spec =
     offset-requires
     shared-slice-read-extent
     extent-requires
-    add-e
+    add-to
     sub-put-all
     part-put-all-start
     part-put-all-end

@@ -1,6 +1,7 @@
 -- The two bytes of an item's signature. Assumes nothing.
+use native.Mathlib.Omega.{arith}
 use borrow.Author.Needs.{needs}
-use Rattle.output.proofs.Laying.{laid-then}
+use Rattle.frame.proofs.FrameLaid.{spells-then, spells-past}
 use Rattle.command.proofs.Doing.{image-long, signed-is}
 use Rattle.command.proofs.act.sign.Statement.{statement}
 use Rattle.command.proofs.act.sign.Tie as tie
@@ -18,7 +19,7 @@ cast-put-2 : tie.Need-cast-put-2
 cast-put-2 c = search needs
 
 put-requires-2 : tie.Need-put-requires-2
-put-requires-2 c κs = search needs
+put-requires-2 c κs = omega (arith, spells-past (c .before .before .before .put .ensures))
 
 same-length : tie.Need-same-length
 same-length c = search needs
@@ -29,7 +30,7 @@ returns c =
     let p = q .before .before .before .before in
     let z = p .before .before in
     let s = z .before .before .before in
-    rw (← (signed-is (s .args .cell) (s .args .m .now) (z .signature-of .ensures))) (laid-then _ _ _ _ _ _ _ _ (p .put .ensures) (q .put2 .ensures))
+    rw (← (signed-is (s .args .cell) (s .args .m .now) (z .signature-of .ensures))) (spells-then _ _ _ _ _ _ _ _ (p .put .ensures) (q .put2 .ensures))
 
 pub sign-spec : {M : Type 1} → statement M
 sign-spec =

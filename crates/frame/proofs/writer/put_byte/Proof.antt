@@ -2,8 +2,8 @@
 use borrow.Author.Needs.{needs}
 use Rattle.output.proofs.Laying.{laid-then}
 use Rattle.frame.specs.Digits.{charsOf}
-use Rattle.frame.proofs.built.put_byte.Statement.{statement}
-use Rattle.frame.proofs.built.put_byte.Tie as tie
+use Rattle.frame.proofs.writer.put_byte.Statement.{statement}
+use Rattle.frame.proofs.writer.put_byte.Tie as tie
 
 char-of-requires : tie.Need-char-of-requires
 char-of-requires c κs = search needs
