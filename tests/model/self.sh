@@ -1,13 +1,15 @@
 #!/usr/bin/env bash
 # Tries the comparison itself, which would also pass if it found nothing: the built programs and the model's own must pass as they are, and each
 # fault that is planted in what they print must be found. A fault that changes nothing, such as an edit that fits no line any more, has failed.
-# Needs the built programs in target/bin.
+# Needs the built programs in target/bin. The panel's, target/c/panel, is tried where it is there.
 set -uo pipefail
 cd "$(dirname "$0")/../.." || exit 1
 mapfile -t prefix < <(tests/prefix)
 [ "${#prefix[@]}" -gt 0 ] || exit 1
+mapfile -t panel_prefix < <(tests/prefix c)
 cargo build --release --offline --quiet --manifest-path tests/model/Cargo.toml || exit 1
 model=tests/model/target/release/model
+panel=target/c/panel
 work=$(mktemp -d) || exit 1
 trap 'rm -rf "$work"' EXIT
 tries=0
@@ -20,12 +22,21 @@ aside() { # COMMAND..
     (here=$work/$tries && export PLANTED=$here/changed && "$@") >"$work/$tries/said" 2>&1 &
 }
 
-# Compares the programs of OF with the model while a fault is planted; leaves the report and whether the fault changed anything.
+# Compares the programs of OF with the model while a fault is planted; leaves the report and whether the fault changed anything. For a fault of
+# another program the panel's is left out, which would only take time.
 compared() { # OF WHICH END FILTER
-    local plant=(tests/model/planted "$2" "$3" "$4")
+    local plant=(tests/model/planted "$2" "$3" "$4") programs
     case $1 in
-        ours) "$model" compare --desk target/bin/desk --probe target/bin/probe --streams 0 --failures 1 -- "${plant[@]}" "${prefix[@]}" ;;
-        model) "$model" compare --desk desk --probe probe --streams 0 --failures 1 -- "${plant[@]}" "$model" ;;
+        ours)
+            programs=(--desk target/bin/desk --probe target/bin/probe)
+            [[ $2 != panel && $2 != '*' || ! -e $panel ]] || programs+=(--panel "$panel")
+            "$model" compare "${programs[@]}" --streams 0 --failures 1 -- "${plant[@]}" "${prefix[@]}" -- "${plant[@]}" "${panel_prefix[@]}"
+            ;;
+        model)
+            programs=(--desk desk --probe probe)
+            [[ $2 != panel && $2 != '*' ]] || programs+=(--panel panel)
+            "$model" compare "${programs[@]}" --streams 0 --failures 1 -- "${plant[@]}" "$model"
+            ;;
     esac >"$here/report" 2>&1
 }
 
@@ -51,6 +62,7 @@ faulted() { # OF WHAT SHOWN WHICH END FILTER
     case $4 in
         desk) kind='desk stream' ;;
         probe) kind='probe script' ;;
+        panel) kind='panel' ;;
     esac
     compared "$1" "$4" "$5" "$6"
     status=$?
@@ -66,7 +78,7 @@ faulted() { # OF WHAT SHOWN WHICH END FILTER
 }
 
 planted() { # WHAT SHOWN WHICH END FILTER
-    aside faulted ours "$@"
+    [[ $3 == panel && ! -e $panel ]] || aside faulted ours "$@"
     aside faulted model "$@"
 }
 
@@ -147,11 +159,43 @@ planted 'a frame off the line not served' '^  at       record V <00><0D><0A>:013
 planted 'a frame off the line answered but not stored' '^FAILED probe script [0-9]+ \(listener, first lines\)' probe - "sed '15s/^S 0 11 [0-9]* /S 0 11 2232525539 /'"
 planted 'a first byte that ends a frame' '^  got      N 1 0 [0-9]+<0A>' probe - "sed '19s/^N 1 1 /N 1 0 /'"
 planted 'a bad end of the probe' 'ended with exit status: 3$' probe 3 cat
+# The panel's first script is a line of the fresh image and the paper's rows by the switch's number 0: P1, P2, a line of another fresh image, P3 to P12.
+# Before a call each lent number is all ones. The digests are those of the fresh image, and of an output whose first byte is 3Ah.
+planted 'a length of a refused call' '^  got      Z 6 9 2232525539 [0-9]+<0A>' panel - "sed '5s/^Z 6 0 /Z 6 9 /'"
+planted 'a length left as it was' '^  got      Z 6 18446744073709551615 2232525539 [0-9]+<0A>' panel - "sed '5s/^Z 6 0 /Z 6 18446744073709551615 /'"
+planted 'an output changed by a refused call' '^  at       record Z 0 :0232CC<0D><0A> ' panel - "sed '7s/^\(Z 7 0 2232525539\) 830530580\$/\1 2051180117/'"
+planted 'rows answered but not stored' '^  at       record Z 0 :013E0101140005A6<0D><0A> ' panel - "sed '12s/^Z 0 11 3957842088 /Z 0 11 2232525539 /'"
+# The second has a fresh image, and then the six writes, a mask first, and the eight reads, a mask first too, by each of ten numbers that seal: 1, 2,
+# 255, 256, 65,536, 2^32, 2^63, 2^64-1, 128 and 257. Then they come by 0. What is put in is the line of the mask that is written by 0, or the image then.
+unsealed='s/^Z 16 0 2232525539 830530580$/Z 0 11 296847682 1888129408/'
+planted 'a switch of 2 read as unsealed' '^  at       record Z 2 :01330FBD<0D><0A> ' panel - "sed '16$unsealed'"
+planted 'a switch of 256 cut to 8 bits' '^  at       record Z 256 :01330FBD<0D><0A> ' panel - "sed '44$unsealed'"
+planted 'a switch of 65,536 cut to 16 bits' '^  at       record Z 65536 :01330FBD<0D><0A> ' panel - "sed '58$unsealed'"
+planted 'a switch of 2^32 read as 0' '^  at       record Z 4294967296 :01330FBD<0D><0A> ' panel - "sed '72$unsealed'"
+planted 'a switch of 2^63 read with a sign' '^  at       record Z 9223372036854775808 :01330FBD<0D><0A> ' panel - "sed '86$unsealed'"
+planted 'a switch of 0 read as sealed' '^  got      Z 16 0 2232525539 830530580<0A>' panel - "sed '142s/^Z 0 11 296847682 1888129408\$/Z 16 0 2232525539 830530580/'"
+planted 'a read refused by a number that seals' '^  at       record Z 1 :0132CD<0D><0A> ' panel - "sed '8s/^Z 0 11 2232525539 3473951281\$/Z 16 0 2232525539 830530580/'"
+planted 'a byte of the image changed by a sealed call' '^  got      Z 16 0 296847682 830530580<0A>' panel - "sed '2s/^Z 16 0 2232525539 /Z 16 0 296847682 /'"
+# In the third, parts of some tables are held, of table 2 the second. Asked are 0 to 20 and 255, and the same behind 256, 512, 65,536, 2^24, 2^31, 2^32
+# and more.
+planted 'table 258 as table 2' '^  at       record J 258 ' panel - "sed '26s/^J 10 0 0\$/J 0 1 1/'"
+planted 'table 65,538 as table 2' '^  at       record J 65538 ' panel - "sed '70s/^J 10 0 0\$/J 0 1 1/'"
+planted 'table 2^32 and 2 as table 2' '^  at       record J 4294967298 ' panel - "sed '136s/^J 10 0 0\$/J 0 1 1/'"
+planted 'parts held left as they were' '^  got      J 10 18446744073709551615 0<0A>' panel - "sed '2s/^J 10 0 0\$/J 10 18446744073709551615 0/'"
+planted 'a missing part left as it was' '^  got      J 10 0 18446744073709551615<0A>' panel - "sed '2s/^J 10 0 0\$/J 10 0 18446744073709551615/'"
+planted 'the eleventh part not counted' '^  at       record J 13 ' panel - "sed '15s/^J 0 11 0\$/J 0 10 11/'"
+# In the fourth the image has address 0. Asked are 1, which is a table's number, and others, the sixth of which is 258.
+planted '10 before 1' '^  at       record J 258 ' panel - "sed '8s/^J 1 0 0\$/J 10 0 0/'"
+# The first of the probe's scripts that it is given come before any of its own with these letters; one begins with a frame, one with held parts.
+planted "the probe's script otherwise through the panel" '^FAILED panel, probe script [0-9]+ ' panel - "sed '2{/^S /{s/9\$/8/;t;s/[0-8]\$/9/}}'"
+planted 'held parts otherwise through the panel' '^  at       record H ' panel - "sed '2s/^H 0 0 1\$/H 0 1 2/'"
+planted 'a bad end of the panel' 'ended with exit status: 3$' panel 3 cat
 wait
 passed=0
 for ((try = 1; try <= tries; try++)); do
     cat "$work/$try/said"
     ! grep -q '^passed: ' "$work/$try/said" || passed=$((passed + 1))
 done
+[ -e "$panel" ] || echo "self: there is no $panel; faults of the panel's program were tried on the model's own alone"
 echo "self: $passed passed, $((tries - passed)) failed"
 [ "$passed" -eq "$tries" ]

@@ -11,6 +11,8 @@ pub use self::moves::{move_down, move_up};
 
 use std::ops::{Range, RangeInclusive};
 
+use super::digits;
+
 pub const IMAGE_BYTES: usize = 23_817;
 
 const FRAME_MIN: usize = 9;
@@ -123,6 +125,17 @@ pub enum Switch {
     Sealed,
 }
 
+impl Switch {
+    /// Document 02, wish 9: the panel's host passes the switch as a plain number of
+    /// 64 bits. 0 is unsealed and anything else sealed.
+    pub fn by_number(number: u64) -> Self {
+        match number {
+            0 => Switch::Unsealed,
+            _ => Switch::Sealed,
+        }
+    }
+}
+
 /// Serves one frame on the image and gives the length of the reply frame.
 pub fn serve(
     switch: Switch,
@@ -187,8 +200,10 @@ pub fn fresh(image: &mut [u8], address: u8) -> Result<(), Refusal> {
     Ok(())
 }
 
-/// Number of parts held of a table, and the lowest part not held (0: none).
-pub fn held_parts(image: &[u8], table: u32) -> Result<(u32, u32), Refusal> {
+/// Number of parts held of a table, and the lowest part not held (0: none). A
+/// table's number may be 64 bits wide, and none of them is dropped (document 02,
+/// wish 9).
+pub fn held_parts(image: &[u8], table: u64) -> Result<(u32, u32), Refusal> {
     if !usable(image) {
         return Err(Refusal::Image);
     }
@@ -219,32 +234,16 @@ fn decode<'a>(frame: &[u8], body: &'a mut [u8; BODY_MAX]) -> Result<&'a [u8], Re
     if frame.len() < FRAME_MIN || frame.len() > FRAME_MAX || frame.len().is_multiple_of(2) {
         return Err(Refusal::Length);
     }
-    let digits = frame
+    let characters = frame
         .strip_prefix(b":")
         .and_then(|rest| rest.strip_suffix(b"\r\n"))
         .ok_or(Refusal::Ends)?;
-    // Document 02, wish 4: one running total of the whole body, checksum
-    // included; the carries are dropped, and 0 must be left.
-    let mut total = 0u8;
-    for (byte, pair) in body.iter_mut().zip(digits.chunks_exact(2)) {
-        *byte = half(pair[0])? << 4 | half(pair[1])?;
-        total = total.wrapping_add(*byte);
-    }
+    // Document 02, wish 4: of the whole body, checksum included, 0 must be left.
+    let total = digits::read(characters, body).ok_or(Refusal::Digit)?;
     if total != 0 {
         return Err(Refusal::Checksum);
     }
-    Ok(&body[..digits.len() / 2 - 1])
-}
-
-/// Document 02, wish 2: reading takes either case in each digit. Characters
-/// outside the three ranges are no digits.
-fn half(character: u8) -> Result<u8, Refusal> {
-    match character {
-        b'0'..=b'9' => Ok(character - b'0'),
-        b'A'..=b'F' => Ok(character - b'A' + 10),
-        b'a'..=b'f' => Ok(character - b'a' + 10),
-        _ => Err(Refusal::Digit),
-    }
+    Ok(&body[..characters.len() / 2 - 1])
 }
 
 /// Writes a frame; the caller has made sure that the output has room.
@@ -393,7 +392,7 @@ fn read_constants(image: &[u8], data: &[u8], reply: &mut Reply) -> Result<(), Re
 
 fn write_part(image: &mut [u8], data: &[u8], reply: &mut Reply) -> Result<(), Refusal> {
     let [table, part, rows @ ..] = exactly::<{ 2 + PART_BYTES }>(data)?;
-    let index = table_index(u32::from(*table))?;
+    let index = table_index(u64::from(*table))?;
     let place = part_place(index, *part)?;
     replace(image, place, rows, table_signature(*table)?);
     let held = held_word(image, index) | 1 << (part - 1);
@@ -404,7 +403,7 @@ fn write_part(image: &mut [u8], data: &[u8], reply: &mut Reply) -> Result<(), Re
 
 fn read_part(image: &[u8], data: &[u8], reply: &mut Reply) -> Result<(), Refusal> {
     let &[table, part] = exactly(data)?;
-    let place = part_place(table_index(u32::from(table))?, part)?;
+    let place = part_place(table_index(u64::from(table))?, part)?;
     reply.put(&[table, part]);
     reply.put(&image[place]);
     Ok(())
@@ -497,7 +496,7 @@ fn errors_place(number: u8) -> Result<Range<usize>, Refusal> {
 }
 
 fn table_signature(table: u8) -> Result<Range<usize>, Refusal> {
-    let index = table_index(u32::from(table))?;
+    let index = table_index(u64::from(table))?;
     Ok(span(SIGNATURES, index, 2))
 }
 
@@ -528,7 +527,7 @@ fn errors_index(number: u8) -> Result<usize, Refusal> {
 }
 
 /// Main tables take the places 0 to 7, additional ones 8 to 15.
-fn table_index(table: u32) -> Result<usize, Refusal> {
+fn table_index(table: u64) -> Result<usize, Refusal> {
     match table {
         1..=8 => Ok(table as usize - 1),
         11..=18 => Ok(table as usize - 3),

@@ -1,6 +1,8 @@
 //! The differential test: seeded streams and scripts are given to the model
 //! and to the programs under test, and their lines are held side by side.
 
+mod panel;
+
 use std::fmt::Write as _;
 use std::io::{self, Read, Write};
 use std::ops::Range;
@@ -13,7 +15,10 @@ use std::time::Duration;
 use crate::coverage::{Before, Came, Coverage};
 use crate::desk::Desk;
 use crate::probe::{serving, Probe, Record, Records, Then};
-use crate::{desk, desk_streams, probe_scripts};
+use crate::{desk, desk_streams, panel_scripts, probe_scripts};
+
+#[cfg(test)]
+pub use self::panel::panel_calls;
 
 /// A program that takes longer than this is stopped and has failed.
 const PATIENCE: Duration = Duration::from_secs(60);
@@ -27,11 +32,14 @@ const TEXT_MAX: usize = 600;
 pub struct Options {
     pub desk: PathBuf,
     pub probe: PathBuf,
+    /// The panel's C program, which may be left out.
+    pub panel: Option<PathBuf>,
     pub streams: usize,
     pub seed: u64,
     /// So many failures end the run.
     pub failures: usize,
     pub prefix: Vec<String>,
+    pub panel_prefix: Vec<String>,
 }
 
 /// Tests passed and failed so far, and the report's way out.
@@ -68,16 +76,24 @@ impl<W: Write> Tally<W> {
 
 /// Runs the whole test; true if nothing failed.
 pub fn compare(options: &Options) -> io::Result<bool> {
-    let mut coverage = Coverage::new();
+    let mut coverage = Coverage::new(options.panel.is_some());
     let mut tally = Tally {
         passed: 0,
         failed: 0,
         out: io::stdout().lock(),
     };
-    let purposeful = desk_streams::purposeful().max(probe_scripts::purposeful());
+    let mut purposeful = desk_streams::purposeful().max(probe_scripts::purposeful());
+    let mut tries = vec![try_desk as Try, try_probe];
+    if options.panel.is_some() {
+        purposeful = purposeful.max(panel_scripts::purposeful());
+        tries.extend([panel::try_own as Try, panel::try_probes]);
+    }
     for number in 0..options.streams.max(purposeful) {
-        for try_one in [try_desk as Try, try_probe] {
-            tally.note(try_one(options, number, &mut coverage))?;
+        for try_one in &tries {
+            let Some(outcome) = try_one(options, number, &mut coverage) else {
+                continue;
+            };
+            tally.note(outcome)?;
             if tally.failed >= options.failures {
                 return tally.end();
             }
@@ -96,10 +112,12 @@ pub fn compare(options: &Options) -> io::Result<bool> {
     tally.end()
 }
 
-/// Tries the stream or script of that number.
-type Try = fn(&Options, usize, &mut Coverage) -> Result<(), String>;
+/// Tries the stream or script of that number, if there is one for the program.
+type Try = fn(&Options, usize, &mut Coverage) -> Option<Outcome>;
 
-fn try_desk(options: &Options, number: usize, coverage: &mut Coverage) -> Result<(), String> {
+type Outcome = Result<(), String>;
+
+fn try_desk(options: &Options, number: usize, coverage: &mut Coverage) -> Option<Outcome> {
     let seed = options.seed;
     let (name, input) = desk_streams::stream(seed, number);
     let drawn = !desk_streams::is_fixed(number);
@@ -109,18 +127,18 @@ fn try_desk(options: &Options, number: usize, coverage: &mut Coverage) -> Result
         Some(piece) => format!("piece {}", printable(piece)),
         None => "past the last piece".to_string(),
     };
-    judge((&options.desk, &options.prefix), &input, &expected, about)
-        .map_err(|fault| format!("desk stream {number} ({name}), seed {seed}\n{fault}"))
+    let outcome = judge((&options.desk, &options.prefix), &input, &expected, about);
+    Some(outcome.map_err(|fault| format!("desk stream {number} ({name}), seed {seed}\n{fault}")))
 }
 
-fn try_probe(options: &Options, number: usize, coverage: &mut Coverage) -> Result<(), String> {
+fn try_probe(options: &Options, number: usize, coverage: &mut Coverage) -> Option<Outcome> {
     let seed = options.seed;
     let (name, script) = probe_scripts::script(seed, number);
     let drawn = !probe_scripts::is_fixed(number);
     let expected = probe_calls(&script, drawn, |came| coverage.count(came));
     let about = |line| describe(&script, line);
-    judge((&options.probe, &options.prefix), &script, &expected, about)
-        .map_err(|fault| format!("probe script {number} ({name}), seed {seed}\n{fault}"))
+    let outcome = judge((&options.probe, &options.prefix), &script, &expected, about);
+    Some(outcome.map_err(|fault| format!("probe script {number} ({name}), seed {seed}\n{fault}")))
 }
 
 /// The desk's lines. Each piece that is served is shown as it comes up.
@@ -299,13 +317,18 @@ fn describe(script: &[u8], line: usize) -> String {
 }
 
 fn lengths(probe: &Probe, record: Record) -> String {
-    let (image, output) = (probe.image_length, probe.output_length);
     match record {
         Record::MoveUp | Record::MoveDown => {
-            format!("image {image}, second {}", probe.second_length)
+            let (image, second) = (probe.image_length, probe.second_length);
+            format!("image {image}, second {second}")
         }
-        _ => format!("image {image}, output {output}"),
+        _ => image_and_output(probe),
     }
+}
+
+fn image_and_output(probe: &Probe) -> String {
+    let (image, output) = (probe.image_length, probe.output_length);
+    format!("image {image}, output {output}")
 }
 
 /// The bytes of a line that one of the lines printed for it is about: those

@@ -4,6 +4,7 @@ mod checksum;
 mod listener;
 mod moves;
 mod order;
+pub mod panel;
 mod sealed;
 mod signatures;
 mod temperatures;
@@ -120,6 +121,8 @@ enum Thing {
     Line(bool, listener::Kind),
     /// A frame served off a line; the first value is the command.
     OffLine(u8, listener::Served),
+    /// What is counted of the panel's program, by whether the call was drawn.
+    Panel(bool, panel::Kind),
 }
 
 /// How often each thing that the test must reach was reached.
@@ -133,16 +136,20 @@ pub struct Coverage {
     order: order::Tally,
     /// Lines as they come up.
     listener: listener::Tally,
+    /// Calls of the panel's program, if it is compared.
+    panel: Option<panel::Tally>,
 }
 
 impl Coverage {
-    pub fn new() -> Self {
+    /// Says whether the panel's program is compared too.
+    pub fn new(panel: bool) -> Self {
         let mut coverage = Coverage {
             things: BTreeMap::new(),
             fixed: BTreeMap::new(),
             desk_words: Vec::new(),
             order: order::Tally::default(),
             listener: listener::Tally::default(),
+            panel: panel.then(panel::Tally::new),
         };
         for (seen, rule) in fixed::wanted() {
             coverage.fixed.entry(seen).or_default().0.push(rule);
@@ -237,6 +244,7 @@ impl Coverage {
         }
         missing.extend(self.missing_of_order());
         missing.extend(self.missing_of_listener());
+        missing.extend(self.missing_of_panel());
         for ((_, _, line), (rules, count)) in &self.fixed {
             if *count < rules.len() {
                 missing.push(format!("{} with the line {line}", rules.join("; ")));
@@ -258,6 +266,7 @@ impl Coverage {
         self.print_moves(out)?;
         self.print_order(out)?;
         self.print_listener(out)?;
+        self.print_panel(out)?;
         let fixed = self.fixed.values();
         let wanted: usize = fixed.clone().map(|(rules, _)| rules.len()).sum();
         let came: usize = fixed.map(|(rules, count)| rules.len().min(*count)).sum();

@@ -8,6 +8,7 @@ mod checksum;
 pub mod listener;
 mod moves;
 mod order;
+pub mod panel;
 mod sealed;
 mod signatures;
 mod small_letters;
@@ -32,10 +33,10 @@ const FIRST_TABLE: usize = 1225;
 /// One call, the rule it shows, and its outcome.
 pub struct Step {
     pub rule: &'static str,
-    /// The letter of its record in a script of the probe.
+    /// The letter of its record in a script of the probe or of the panel's program.
     pub letter: char,
-    /// What it is given: a frame, contents, an address or a table's number; of a
-    /// move nothing.
+    /// What it is given: a frame, and before it the switch if that is a number,
+    /// contents, an address or a table's number; of a move nothing.
     pub input: Vec<u8>,
     /// What was changed behind the block's back right before it.
     pub changed: Vec<Change>,
@@ -212,7 +213,8 @@ impl Session {
             .collect()
     }
 
-    /// The probe's line for each step, from what is written here alone.
+    /// The line of the probe or of the panel's program for each step, from what is
+    /// written here alone.
     pub fn probe_lines(&self) -> Vec<String> {
         let mut buffers = Buffers::new(self.address);
         buffers.change(&Change::Length(self.image_length));
@@ -229,10 +231,10 @@ impl Session {
             let output = digest(&output[..self.output]);
             let image = buffers.image();
             lines.push(match letter {
-                'S' | 'K' => format!("{letter} {number} {length} {image} {output}"),
+                'S' | 'K' | 'Z' => format!("{letter} {number} {length} {image} {output}"),
                 'F' => format!("F {number} {image}"),
                 'U' | 'D' => format!("{letter} {number} {image} {}", buffers.second()),
-                'H' => format!("H {number} {parts} {missing}"),
+                'H' | 'J' => format!("{letter} {number} {parts} {missing}"),
                 _ => format!("{letter} {number} {length} {output}"),
             });
         }
@@ -267,6 +269,19 @@ pub fn wanted() -> Vec<(Seen, String)> {
             let letter = line.then.letter();
             let rule = format!("{letter} of {}: {}", hearing.name, line.rule);
             wanted.push(((letter, line.bytes.clone(), printed.join("\n")), rule));
+        }
+    }
+    wanted
+}
+
+/// Every fixed call of the panel's own with the line it must print, and the rule
+/// it shows.
+pub fn wanted_of_panel() -> Vec<(Seen, String)> {
+    let mut wanted = Vec::new();
+    for session in panel::sessions() {
+        for (step, line) in session.steps.iter().zip(session.probe_lines()) {
+            let rule = format!("{} of {}: {}", step.letter, session.name, step.rule);
+            wanted.push(((step.letter, step.input.clone(), line), rule));
         }
     }
     wanted

@@ -3,10 +3,13 @@
 //!
 //!     model desk  < frames    the desk program's lines
 //!     model probe < script    the probe program's lines
-//!     model compare --desk PATH --probe PATH
-//!         [--streams N] [--seed S] [--failures M] [-- PREFIX...]
+//!     model panel < script    the lines of the panel's C program
+//!     model compare --desk PATH --probe PATH [--panel PATH]
+//!         [--streams N] [--seed S] [--failures M] [-- PREFIX... [-- PANEL'S...]]
 //!
-//! The words of PREFIX are put before each program's path, for an emulator.
+//! The words of PREFIX are put before each program's path, for an emulator. The
+//! panel's program, which may be built for the machine itself, has its own
+//! behind a second `--`.
 //! Some hundred streams and scripts have a purpose of their own and come first;
 //! a smaller N leaves none of them out. The run ends early after M failures.
 
@@ -16,11 +19,14 @@ mod compare;
 mod coverage;
 mod desk;
 mod desk_streams;
+mod digits;
 mod fixed;
 mod items;
 mod lines;
 mod listener;
 mod order;
+mod panel;
+mod panel_scripts;
 mod probe;
 mod probe_scripts;
 #[cfg(test)]
@@ -32,8 +38,9 @@ use std::io::{self, Read, Write};
 use std::path::PathBuf;
 use std::process::ExitCode;
 
-const USAGE: &str = "usage: model desk | model probe | model compare --desk PATH --probe PATH \
-    [--streams N] [--seed S] [--failures M] [-- PREFIX...]";
+const USAGE: &str =
+    "usage: model desk | model probe | model panel | model compare --desk PATH --probe PATH \
+    [--panel PATH] [--streams N] [--seed S] [--failures M] [-- PREFIX... [-- PANEL'S...]]";
 
 fn main() -> ExitCode {
     let mut words = env::args().skip(1);
@@ -41,6 +48,7 @@ fn main() -> ExitCode {
         // One byte past the limit tells that the input is too long.
         Some("desk") => pass(desk::INPUT_MAX + 1, desk::lines),
         Some("probe") => pass(probe::SCRIPT_MAX, probe::lines),
+        Some("panel") => pass(probe::SCRIPT_MAX, panel::lines),
         Some("compare") => match options(words) {
             Ok(options) => compare::compare(&options),
             Err(fault) => return usage(&fault),
@@ -76,12 +84,16 @@ fn pass(limit: usize, lines: fn(&[u8]) -> Vec<String>) -> io::Result<bool> {
 }
 
 fn options(mut words: impl Iterator<Item = String>) -> Result<compare::Options, String> {
-    let (mut desk, mut probe) = (None, None);
+    let (mut desk, mut probe, mut panel) = (None, None, None);
     let (mut streams, mut seed, mut failures) = (406, 2012, usize::MAX);
     let mut prefix = Vec::new();
+    let mut panel_prefix = None;
     while let Some(word) = words.next() {
         if word == "--" {
-            prefix.extend(words.by_ref());
+            let rest: Vec<String> = words.collect();
+            let mut parts = rest.split(|word| word == "--").map(<[String]>::to_vec);
+            prefix = parts.next().unwrap_or_default();
+            panel_prefix = parts.next();
             break;
         }
         let value = words.next().ok_or(format!("{word} has no value"))?;
@@ -89,6 +101,7 @@ fn options(mut words: impl Iterator<Item = String>) -> Result<compare::Options, 
         match word.as_str() {
             "--desk" => desk = Some(PathBuf::from(value)),
             "--probe" => probe = Some(PathBuf::from(value)),
+            "--panel" => panel = Some(PathBuf::from(value)),
             "--streams" => streams = value.parse().map_err(|_| not_a_number())?,
             "--seed" => seed = value.parse().map_err(|_| not_a_number())?,
             "--failures" => failures = value.parse().map_err(|_| not_a_number())?,
@@ -98,9 +111,11 @@ fn options(mut words: impl Iterator<Item = String>) -> Result<compare::Options, 
     Ok(compare::Options {
         desk: desk.ok_or("--desk is missing")?,
         probe: probe.ok_or("--probe is missing")?,
+        panel,
         streams,
         seed,
         failures,
+        panel_prefix: panel_prefix.unwrap_or_else(|| prefix.clone()),
         prefix,
     })
 }

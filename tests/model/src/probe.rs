@@ -81,6 +81,16 @@ impl<'a> Records<'a> {
         }
     }
 
+    /// The letter that comes next, if the script goes on.
+    pub fn letter(&self) -> Option<u8> {
+        self.rest.first().copied()
+    }
+
+    /// Nothing after a broken record is read.
+    pub fn end(&mut self) {
+        self.rest = &[];
+    }
+
     fn take(&mut self, count: usize) -> Option<&'a [u8]> {
         let (taken, rest) = self.rest.split_at_checked(count)?;
         self.rest = rest;
@@ -88,7 +98,7 @@ impl<'a> Records<'a> {
     }
 
     /// A number of this many bytes, high byte first.
-    fn number(&mut self, count: usize) -> Option<usize> {
+    pub fn number(&mut self, count: usize) -> Option<usize> {
         let bytes = self.take(count)?;
         Some(
             bytes
@@ -97,17 +107,17 @@ impl<'a> Records<'a> {
         )
     }
 
-    fn byte(&mut self) -> Option<u8> {
+    pub fn byte(&mut self) -> Option<u8> {
         Some(self.take(1)?[0])
     }
 
-    fn counted(&mut self) -> Option<&'a [u8]> {
+    pub fn counted(&mut self) -> Option<&'a [u8]> {
         let length = self.number(2)?;
         self.take(length)
     }
 
     /// The whole record, or nothing if it is unknown or cut short.
-    fn record(&mut self) -> Option<Record<'a>> {
+    pub fn record(&mut self) -> Option<Record<'a>> {
         Some(match self.byte()? {
             b'L' => Record::ImageLength(self.number(3)?.min(IMAGE_ROOM)),
             b'P' => Record::Poke {
@@ -148,12 +158,10 @@ impl<'a> Iterator for Records<'a> {
     type Item = Record<'a>;
 
     fn next(&mut self) -> Option<Record<'a>> {
-        if self.rest.is_empty() {
-            return None;
-        }
+        self.letter()?;
         let record = self.record();
         if record.is_none() {
-            self.rest = &[]; // nothing after a broken record is read
+            self.end();
         }
         Some(record.unwrap_or(Record::Broken))
     }
@@ -229,7 +237,7 @@ impl Probe {
             lines.push(format!("G {taken} {} {}", frame.len(), digest(&frame)));
             if then == Then::Serve {
                 let image_before = self.image().to_vec();
-                let line = self.serve(Switch::Unsealed, &frame);
+                let line = self.serve('S', Switch::Unsealed, &frame);
                 show(Served {
                     probe: self,
                     frame: &frame,
@@ -249,12 +257,22 @@ impl Probe {
         lines
     }
 
-    fn serve(&mut self, switch: Switch, frame: &[u8]) -> String {
+    /// Serves a frame and gives the line for it, which begins with this letter.
+    pub fn serve(&mut self, letter: char, switch: Switch, frame: &[u8]) -> String {
         let image = &mut self.image[..self.image_length];
         let output = &mut self.output[..self.output_length];
         let answer = spell(block::serve(switch, image, frame, output));
-        let (letter, image, output) = (serving(switch), digest(image), digest(output));
+        let (image, output) = (digest(image), digest(output));
         format!("{letter} {answer} {image} {output}")
+    }
+
+    /// Asks which parts of a table are held and gives the line for it, which begins
+    /// with this letter.
+    pub fn held(&self, letter: char, table: u64) -> String {
+        let answer = block::held_parts(self.image(), table);
+        let number = number(&answer);
+        let (parts, missing) = answer.unwrap_or((0, 0));
+        format!("{letter} {number} {parts} {missing}")
     }
 
     /// Carries out a record that is no line and gives what it prints, if it
@@ -268,7 +286,7 @@ impl Probe {
                 let number = number(&block::fresh(image, address));
                 format!("F {number} {}", digest(image))
             }
-            Record::Serve(switch, frame) => self.serve(switch, frame),
+            Record::Serve(switch, frame) => self.serve(serving(switch), switch, frame),
             Record::TakeApart(frame) => {
                 let answer = spell(block::take_apart(frame, output));
                 format!("T {answer} {}", digest(output))
@@ -277,7 +295,7 @@ impl Probe {
                 let answer = spell(block::build(contents, output));
                 format!("B {answer} {}", digest(output))
             }
-            Record::Held(table) => held(image, table),
+            Record::Held(table) => self.held('H', u64::from(table)),
             Record::MoveUp => {
                 let number = number(&block::move_up(image, second));
                 format!("U {number} {} {}", digest(image), digest(second))
@@ -340,13 +358,6 @@ pub fn lines(script: &[u8]) -> Vec<String> {
     Records::new(script)
         .flat_map(|record| probe.step(record))
         .collect()
-}
-
-fn held(image: &[u8], table: u32) -> String {
-    let answer = block::held_parts(image, table);
-    let number = number(&answer);
-    let (parts, missing) = answer.unwrap_or((0, 0));
-    format!("H {number} {parts} {missing}")
 }
 
 fn spell(answer: Result<usize, Refusal>) -> String {

@@ -16,13 +16,13 @@ use crate::streams::{
     with_other_sums, Rng, COMMANDS, TEMPERATURES, WRITING,
 };
 
-const IMAGE_BYTES: usize = 23_817;
-const WORDS: usize = 17;
+pub const IMAGE_BYTES: usize = 23_817;
+pub const WORDS: usize = 17;
 const CONSTANTS: usize = 49;
-const ERRORS: usize = 713;
+pub const ERRORS: usize = 713;
 const TABLES: usize = 1225;
 
-type Case = (&'static str, fn(&mut Rng) -> Script);
+pub type Case = (&'static str, fn(&mut Rng) -> Script);
 
 const CASES: [Case; 45] = [
     ("empty", |_| Script::default()),
@@ -75,33 +75,33 @@ const CASES: [Case; 45] = [
 
 /// A script under construction.
 #[derive(Default)]
-pub struct Script(Vec<u8>);
+pub struct Script(pub Vec<u8>);
 
 impl Script {
     /// A letter, then a number high byte first in so many bytes.
-    fn put(&mut self, letter: u8, number: usize, bytes: usize) -> &mut Self {
+    pub fn put(&mut self, letter: u8, number: usize, bytes: usize) -> &mut Self {
         self.0.push(letter);
         self.0.extend(&(number as u64).to_be_bytes()[8 - bytes..]);
         self
     }
 
-    fn image_length(&mut self, length: usize) -> &mut Self {
+    pub fn image_length(&mut self, length: usize) -> &mut Self {
         self.put(b'L', length, 3)
     }
 
-    fn poke(&mut self, offset: usize, value: u8) -> &mut Self {
+    pub fn poke(&mut self, offset: usize, value: u8) -> &mut Self {
         self.put(b'P', offset, 3).0.push(value);
         self
     }
 
-    fn poke_all(&mut self, offset: usize, bytes: &[u8]) -> &mut Self {
+    pub fn poke_all(&mut self, offset: usize, bytes: &[u8]) -> &mut Self {
         for (place, &value) in bytes.iter().enumerate() {
             self.poke(offset + place, value);
         }
         self
     }
 
-    fn fill(&mut self, value: u8) -> &mut Self {
+    pub fn fill(&mut self, value: u8) -> &mut Self {
         self.given(b'W', &[value])
     }
 
@@ -110,17 +110,17 @@ impl Script {
         self.given(b'X', &[])
     }
 
-    fn output(&mut self, length: usize, fill: u8) -> &mut Self {
+    pub fn output(&mut self, length: usize, fill: u8) -> &mut Self {
         self.put(b'O', length, 2).0.push(fill);
         self
     }
 
-    fn fresh(&mut self, address: u8) -> &mut Self {
+    pub fn fresh(&mut self, address: u8) -> &mut Self {
         self.put(b'F', usize::from(address), 1)
     }
 
     /// A letter, then these bytes.
-    fn given(&mut self, letter: u8, bytes: &[u8]) -> &mut Self {
+    pub fn given(&mut self, letter: u8, bytes: &[u8]) -> &mut Self {
         self.0.push(letter);
         self.0.extend(bytes);
         self
@@ -128,15 +128,21 @@ impl Script {
 
     /// A letter, then how many bytes, then these.
     fn counted(&mut self, letter: u8, bytes: &[u8]) -> &mut Self {
-        self.put(letter, bytes.len(), 2).0.extend(bytes);
+        self.given(letter, &[]).length_and(bytes)
+    }
+
+    /// How many bytes, then these.
+    pub fn length_and(&mut self, bytes: &[u8]) -> &mut Self {
+        self.0.extend(&(bytes.len() as u64).to_be_bytes()[6..]);
+        self.0.extend(bytes);
         self
     }
 
-    fn serve(&mut self, frame: &[u8]) -> &mut Self {
+    pub fn serve(&mut self, frame: &[u8]) -> &mut Self {
         self.counted(b'S', frame)
     }
 
-    fn serve_sealed(&mut self, frame: &[u8]) -> &mut Self {
+    pub fn serve_sealed(&mut self, frame: &[u8]) -> &mut Self {
         self.counted(b'K', frame)
     }
 
@@ -148,12 +154,12 @@ impl Script {
         self.counted(b'B', contents)
     }
 
-    fn held(&mut self, table: u32) -> &mut Self {
+    pub fn held(&mut self, table: u32) -> &mut Self {
         self.put(b'H', table as usize, 4)
     }
 
     /// Shows the whole image buffer, with what lies past a right image.
-    fn show_all(&mut self) -> &mut Self {
+    pub fn show_all(&mut self) -> &mut Self {
         self.image_length(24_000).fresh(1)
     }
 }
@@ -209,7 +215,11 @@ pub fn fixed_calls(session: &Session) -> Vec<u8> {
         }
         script.output(session.output, FILL);
         match step.letter {
-            'F' | 'H' | 'U' | 'D' => script.given(step.letter as u8, &step.input),
+            'F' | 'H' | 'J' | 'U' | 'D' => script.given(step.letter as u8, &step.input),
+            'Z' => {
+                let (number, frame) = step.input.split_at(8);
+                script.given(b'Z', number).length_and(frame)
+            }
             letter => script.counted(letter as u8, &step.input),
         };
     }
@@ -346,7 +356,7 @@ fn unjudged_bytes(rng: &mut Rng) -> Script {
     script
 }
 
-fn poke_unjudged(script: &mut Script, rng: &mut Rng) {
+pub fn poke_unjudged(script: &mut Script, rng: &mut Rng) {
     let mut places: Vec<usize> = (6..WORDS).chain(items::WORDS).collect();
     for channel in [0, 3, 7] {
         places.extend((0..83).map(|byte| CONSTANTS + 83 * channel + byte));
@@ -366,10 +376,10 @@ fn poke_unjudged(script: &mut Script, rng: &mut Rng) {
 }
 
 /// A record that serves a frame, sealed or unsealed.
-type Serving = for<'a> fn(&'a mut Script, &[u8]) -> &'a mut Script;
+pub type Serving = for<'a> fn(&'a mut Script, &[u8]) -> &'a mut Script;
 
 /// Every reading command on every item.
-fn look_everywhere(script: &mut Script, serve: Serving) {
+pub fn look_everywhere(script: &mut Script, serve: Serving) {
     serve(script, &ask(1, 50, &[]));
     serve(script, &ask(1, 78, &[]));
     for item in 0..=8 {
@@ -934,7 +944,7 @@ fn by_chance(rng: &mut Rng) -> Script {
 }
 
 /// Fills an image in part, so that it stays usable.
-fn old_bytes(script: &mut Script, rng: &mut Rng) {
+pub fn old_bytes(script: &mut Script, rng: &mut Rng) {
     for _ in 0..rng.below(200) {
         let places = [(6, 11), (CONSTANTS, 664), (ERRORS, 512), (TABLES, 22_528)];
         let (first, count) = rng.pick(&places);
@@ -955,7 +965,7 @@ fn old_bytes(script: &mut Script, rng: &mut Rng) {
 }
 
 /// Changes a word or bytes of an item behind the block's back.
-fn change_behind(script: &mut Script, rng: &mut Rng) {
+pub fn change_behind(script: &mut Script, rng: &mut Rng) {
     let item = &ITEMS[rng.below(32)];
     if rng.percent(60) {
         script.poke_all(item.word, &any_word(rng).to_be_bytes());

@@ -3,6 +3,7 @@
 mod listener;
 mod moves;
 mod order;
+mod panel;
 mod signatures;
 
 use crate::block::{build, fresh, held_parts, serve, take_apart, Refusal, Switch, IMAGE_BYTES};
@@ -502,7 +503,20 @@ fn parts_are_counted_once() {
 #[test]
 fn table_numbers_are_not_cut_short() {
     let image = image_at(1);
-    for table in [0, 9, 10, 19, 258, 268, 65_538, 1 << 24 | 2, u32::MAX] {
+    for table in [
+        0,
+        9,
+        10,
+        19,
+        258,
+        268,
+        65_538,
+        1 << 24 | 2,
+        u64::from(u32::MAX),
+        1 << 32 | 2,
+        1 << 63 | 12,
+        u64::MAX,
+    ] {
         assert_eq!(held_parts(&image, table), Err(Refusal::Item));
     }
 }

@@ -68,10 +68,10 @@ fn alike(mut steps: Vec<Step>) -> Vec<Step> {
 }
 
 /// A frame that is accepted unsealed, its reply then, and what it stores.
-struct Write {
-    text: String,
-    reply: &'static str,
-    stored: Vec<(usize, Vec<u8>)>,
+pub struct Write {
+    pub text: String,
+    pub reply: &'static str,
+    pub stored: Vec<(usize, Vec<u8>)>,
 }
 
 impl Write {
@@ -90,7 +90,7 @@ impl Write {
 }
 
 /// One for each of the six commands.
-fn writes() -> [Write; 6] {
+pub fn writes() -> [Write; 6] {
     let constants = [&[0xAB, 0xCD, 0xEF, 0x0D], &[0; 78][..], &[0xAF]].concat();
     let constants_text = format!(":013507ABCDEF0D{}AFA0", "00".repeat(78));
     let part_text = format!(":013B0C0B{}2D", "AB".repeat(128));
@@ -120,7 +120,7 @@ fn writes() -> [Write; 6] {
 }
 
 /// Frames of the six commands for the same items, with other values.
-fn other_writes() -> [String; 6] {
+pub fn other_writes() -> [String; 6] {
     [
         ":0133F0DC".to_string(),
         format!(":01350700000001{}C2", "00".repeat(79)),
@@ -145,7 +145,7 @@ fn elsewhere() -> [String; 6] {
 
 /// A frame of each of the eight commands, its reply on a fresh image, and its
 /// reply once all of `writes` are stored.
-fn reads() -> [(&'static str, String, String); 8] {
+pub fn reads() -> [(&'static str, String, String); 8] {
     let row = |text, fresh: &str, stored: &str| (text, fresh.to_string(), stored.to_string());
     [
         row(":0132CD", ":013200CD", ":01320FBE"),

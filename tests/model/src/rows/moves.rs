@@ -193,7 +193,7 @@ fn images_reached_by_calls_come_back() {
         assert!(other == image);
         let frame = ask(1, command, &good_data(&mut rng, command));
         assert_eq!(put(&mut other, &frame), put(&mut image, &frame));
-        let table = u32::from(rng.between(0, 19));
+        let table = u64::from(rng.between(0, 19));
         assert_eq!(held_parts(&other, table), held_parts(&image, table));
     }
 }
