@@ -2,7 +2,7 @@
 
    For Linux on x86-64. The archive is target/staticlib/libpanel.a, made and proved by `rt staticlib panel`; link it as
 
-       cc prog.c libpanel.a
+       cc -I include prog.c target/staticlib/libpanel.a
 
    Of the C library it uses memcpy and memset. It allocates nothing, makes no system call, has no state of its own and keeps
    nothing between two calls: all that there is stands in the buffers that the host lends. Frames, commands and the image are
@@ -23,8 +23,8 @@
 
     No.  izk_serve  izk_held_parts  Meaning
      0      x             x         done
-     1      x             x         the image is not usable: not of IZK_IMAGE_LEN bytes, or its mark, version, address,
-                                    a row count or a table's word is wrong
+     1      x             x         the image is not usable: not of IZK_IMAGE_LEN bytes, another mark or version, address 0,
+                                    a row count above 21 or a table's word above 2047. So is an image of version 1
      2      x                       the output is shorter than IZK_OUT_MIN
      3      x                       the frame is shorter than 9 bytes, longer than IZK_FRAME_MAX or of even length
      4      x                       the frame does not begin with 3Ah, or does not end with 0Dh 0Ah
@@ -48,13 +48,17 @@
    - while a call runs, nobody else touches what it was lent. So no two threads serve on one image at once. Calls that have
      no buffer in common may run at the same time.
 
+   What is said of the image holds once a call has returned. One that is cut off, by a loss of power, can leave a write half
+   done.
+
    A fresh image has the bytes 49h 5Ah 4Bh 00h 02h, then its address, 1..255, then zeros up to IZK_IMAGE_LEN. There is no
    function for it here: the host lays it out, as the example does. After that, the host only lends it.
 
    Stack. Of the calls of tests/panel/cases.c, none of izk_serve was measured to take more than 552 bytes, and none of
    izk_held_parts more than 72, with the return address and what arguments the caller pushes counted in; tests/panel/stack.c
-   measures again, and IZK_STACK leaves a margin. Where the C library's functions are looked up at their
-   first use, the first call takes besides what the loader needs for that; a program linked with -Wl,-z,now has none of it. */
+   measures again, and IZK_STACK leaves a margin. That was in the kit's emulator with the kit's C library: another library's
+   memcpy and memset may take other amounts. With lazy binding the first call takes, besides, what the loader needs; linking
+   with -Wl,-z,now avoids that. */
 
 #ifdef __cplusplus
 extern "C" {
@@ -63,7 +67,7 @@ extern "C" {
 /* Serves a frame on an image.
 
    frame, frame_len   one whole frame as it came, from 3Ah to 0Dh 0Ah; it is only read
-   sealed             the key switch: 0 is unsealed, any other number sealed. It goes by this call alone and is stored nowhere. It
+   sealed             the key switch: 0 is unsealed, any other number sealed. It counts for this call alone and is stored nowhere. It
                       has 64 bits so that no integer but 0 becomes 0 on its way
    image, image_len   the block's memory
    out, out_len       where the reply goes
@@ -92,7 +96,7 @@ uint8_t izk_held_parts(const uint8_t *image, size_t image_len, uint64_t table, u
 }
 #endif
 
-/* Example: a program that asks a fresh block of address 1 for its mask, and which parts of table 12 it holds.
+/* Example: a program that asks a fresh block of address 1 for its mask, and how many parts of table 12 it holds.
 
 #include "izk.h"
 

@@ -181,8 +181,8 @@ planted 'a byte of the image changed by a sealed call' '^  got      Z 16 0 29684
 planted 'table 258 as table 2' '^  at       record J 258 ' panel - "sed '26s/^J 10 0 0\$/J 0 1 1/'"
 planted 'table 65,538 as table 2' '^  at       record J 65538 ' panel - "sed '70s/^J 10 0 0\$/J 0 1 1/'"
 planted 'table 2^32 and 2 as table 2' '^  at       record J 4294967298 ' panel - "sed '136s/^J 10 0 0\$/J 0 1 1/'"
-planted 'parts held left as they were' '^  got      J 10 18446744073709551615 0<0A>' panel - "sed '2s/^J 10 0 0\$/J 10 18446744073709551615 0/'"
-planted 'a missing part left as it was' '^  got      J 10 0 18446744073709551615<0A>' panel - "sed '2s/^J 10 0 0\$/J 10 0 18446744073709551615/'"
+planted 'parts held left as they were' '^  got      J 10 255 0<0A>' panel - "sed '2s/^J 10 0 0\$/J 10 255 0/'"
+planted 'a missing part left as it was' '^  got      J 10 0 255<0A>' panel - "sed '2s/^J 10 0 0\$/J 10 0 255/'"
 planted 'the eleventh part not counted' '^  at       record J 13 ' panel - "sed '15s/^J 0 11 0\$/J 0 10 11/'"
 # In the fourth the image has address 0. Asked are 1, which is a table's number, and others, the sixth of which is 258.
 planted '10 before 1' '^  at       record J 258 ' panel - "sed '8s/^J 1 0 0\$/J 10 0 0/'"

@@ -8,7 +8,7 @@ use crate::digits::decode;
 use crate::total::total_of;
 use output::Answer;
 
-// Bracketed as the definition is, and without a branch: which of the three is wrong cannot be guessed.
+// Bracketed as the definition is, so that the two compute alike.
 fn ends_ok(f: &[u8]) -> bool
     requires { ⌜ 2 ≤ length (now f) ⌝ }
     ensures { λ r. ⌜ r ≡ endsOk (now (f .entry)) ⌝ }
