@@ -77,9 +77,10 @@ faulted() { # OF WHAT SHOWN WHICH END FILTER
     fi
 }
 
+# In the panel's program once, in ours if it is there: the model's own prints by what prints the probe's lines.
 planted() { # WHAT SHOWN WHICH END FILTER
     [[ $3 == panel && ! -e $panel ]] || aside faulted ours "$@"
-    aside faulted model "$@"
+    [[ $3 == panel && -e $panel ]] || aside faulted model "$@"
 }
 
 aside unfaulted ours
@@ -170,25 +171,20 @@ planted 'rows answered but not stored' '^  at       record Z 0 :013E0101140005A6
 unsealed='s/^Z 16 0 2232525539 830530580$/Z 0 11 296847682 1888129408/'
 planted 'a switch of 2 read as unsealed' '^  at       record Z 2 :01330FBD<0D><0A> ' panel - "sed '16$unsealed'"
 planted 'a switch of 256 cut to 8 bits' '^  at       record Z 256 :01330FBD<0D><0A> ' panel - "sed '44$unsealed'"
-planted 'a switch of 65,536 cut to 16 bits' '^  at       record Z 65536 :01330FBD<0D><0A> ' panel - "sed '58$unsealed'"
 planted 'a switch of 2^32 read as 0' '^  at       record Z 4294967296 :01330FBD<0D><0A> ' panel - "sed '72$unsealed'"
-planted 'a switch of 2^63 read with a sign' '^  at       record Z 9223372036854775808 :01330FBD<0D><0A> ' panel - "sed '86$unsealed'"
 planted 'a switch of 0 read as sealed' '^  got      Z 16 0 2232525539 830530580<0A>' panel - "sed '142s/^Z 0 11 296847682 1888129408\$/Z 16 0 2232525539 830530580/'"
 planted 'a read refused by a number that seals' '^  at       record Z 1 :0132CD<0D><0A> ' panel - "sed '8s/^Z 0 11 2232525539 3473951281\$/Z 16 0 2232525539 830530580/'"
 planted 'a byte of the image changed by a sealed call' '^  got      Z 16 0 296847682 830530580<0A>' panel - "sed '2s/^Z 16 0 2232525539 /Z 16 0 296847682 /'"
 # In the third, parts of some tables are held, of table 2 the second. Asked are 0 to 20 and 255, and the same behind 256, 512, 65,536, 2^24, 2^31, 2^32
 # and more.
 planted 'table 258 as table 2' '^  at       record J 258 ' panel - "sed '26s/^J 10 0 0\$/J 0 1 1/'"
-planted 'table 65,538 as table 2' '^  at       record J 65538 ' panel - "sed '70s/^J 10 0 0\$/J 0 1 1/'"
 planted 'table 2^32 and 2 as table 2' '^  at       record J 4294967298 ' panel - "sed '136s/^J 10 0 0\$/J 0 1 1/'"
 planted 'parts held left as they were' '^  got      J 10 255 0<0A>' panel - "sed '2s/^J 10 0 0\$/J 10 255 0/'"
-planted 'a missing part left as it was' '^  got      J 10 0 255<0A>' panel - "sed '2s/^J 10 0 0\$/J 10 0 255/'"
 planted 'the eleventh part not counted' '^  at       record J 13 ' panel - "sed '15s/^J 0 11 0\$/J 0 10 11/'"
 # In the fourth the image has address 0. Asked are 1, which is a table's number, and others, the sixth of which is 258.
 planted '10 before 1' '^  at       record J 258 ' panel - "sed '8s/^J 1 0 0\$/J 10 0 0/'"
-# The first of the probe's scripts that it is given come before any of its own with these letters; one begins with a frame, one with held parts.
+# The first of the probe's scripts that it is given come before any of its own with these letters; one begins with a frame.
 planted "the probe's script otherwise through the panel" '^FAILED panel, probe script [0-9]+ ' panel - "sed '2{/^S /{s/9\$/8/;t;s/[0-8]\$/9/}}'"
-planted 'held parts otherwise through the panel' '^  at       record H ' panel - "sed '2s/^H 0 0 1\$/H 0 1 2/'"
 planted 'a bad end of the panel' 'ended with exit status: 3$' panel 3 cat
 wait
 passed=0
