@@ -69,11 +69,7 @@ module _ {f w : List ℕ} {r : Answer} (d : ReadInto f r w) where
 
   -- and nothing is reported with it
   pub read-refused : (r .number ≡ 0 → ⊥) → r .len ≡ 0
-  read-refused n = go (judge (frameChecks f))
-    where
-      go : Judged (frameChecks f) → r .len ≡ 0
-      go (Checks.passed p) = absurd (n (ap (λ (a : Answer). a .number) (d .answer-is ∙ judged-passed _ (frameChecks f) _ p)))
-      go (Checks.failed c i h) = ap (λ (a : Answer). a .len) (d .answer-is ∙ h Answer _ _)
+  read-refused n = ap (λ (a : Answer). a .len) (d .answer-is ∙ read-refuses n Answer _ _)
 
   -- with 0 the checks passed, and the contents stand in the array
   module _ (zero-is : r .number ≡ 0) where
