@@ -4,7 +4,7 @@ use mathlib.Core.List.{List, [], _∷_}
 use Prim.Native.Nat.{ℕ, _+_, _-_, _*_, _/_, _≤_, _<_}
 use native.Mathlib.Omega.{arith}
 use lib.ListN.{length, getD, take, drop}
-use lib.Seq.{getD-take, getD-drop, take-all}
+use lib.Seq.{getD-take, getD-drop}
 use Rattle.laws.specs.Bytes.{slice, lay}
 use Rattle.laws.proofs.Bytes.{length-slice, slice-is, lay-take}
 use Rattle.frame.specs.Digits.{valueOf, bytesOf}
@@ -53,15 +53,8 @@ module _ (f : List ℕ) (low : 9 ≤ length f) where
     unfolding bodyOf
     is-body = is ∙ ap (λ (s : List ℕ). lay z 0 (bytesOf s)) chars-are
 
-    work-take : (n : ℕ) → n ≤ length (bodyOf f) → take n work ≡ take n (bodyOf f)
-    work-take n h = let e = length-body in rw is-body (lay-take z (bodyOf f) (omega arith) n h)
-
     pub work-contents : take ((length f - 3) / 2 - 1) work ≡ contentsOf f
     unfolding contentsOf slice
-    work-contents = rw (← length-body) (work-take (length (bodyOf f) - 1) (omega arith))
-
-    pub work-body : take ((length f - 3) / 2 - 1 + 1) work ≡ bodyOf f
-    work-body =
-        let h = length-body in
-        let e : (length f - 3) / 2 - 1 + 1 ≡ length (bodyOf f) = omega arith in
-        rw e (work-take (length (bodyOf f)) (omega arith) ∙ take-all (length (bodyOf f)) (bodyOf f) (omega arith))
+    work-contents =
+        let e = length-body in
+        rw (← length-body, is-body) (lay-take z (bodyOf f) (omega arith) (length (bodyOf f) - 1) (omega arith))

@@ -2,12 +2,13 @@
 use mathlib.Core.Path.{_≡_}
 use mathlib.Core.List.{List}
 use mathlib.Core.Bool.{Bool, true, cond}
-use Prim.Native.Nat.{ℕ}
+use Prim.Native.Nat.{ℕ, _%_}
 use lib.ListN.{length, getD, take}
 use lib.Dec.{leb, eqb}
-use Rattle.laws.specs.Bytes.{lay}
+use Rattle.laws.specs.Bytes.{lay, sumOf}
 use Rattle.laws.specs.Checks.{every, judged}
 use Rattle.output.specs.declared.answer.Answer.{Answer}
+use Rattle.frame.specs.declared.digits.Tally.{Tally}
 use Rattle.frame.specs.Digits.{isDigit, allDigits, valueOf, bytesOf}
 use Rattle.frame.specs.Apart.{contentsOf, frameChecks}
 
@@ -18,9 +19,11 @@ readsAt t c = cond (isDigit c) (eqb (getD t c 0) (valueOf c)) (leb 16 (getD t c 
 unfoldable pub readsDigits : List ℕ → Bool
 readsDigits t = every (readsAt t) 256
 
--- characters were read: whether all are digits; if so, their bytes lie over the first of a work array, and else nothing is said of it
-pub record Decoded (s old : List ℕ) (all : Bool) (new : List ℕ) : Type 0 where
-  pub all-is : all ≡ allDigits s
+-- characters were read: whether all are digits; if so, their bytes lie over the first of a work array and add up to the total, carries dropped, and
+-- else nothing is said of either
+pub record Decoded (s old : List ℕ) (t : Tally) (new : List ℕ) : Type 0 where
+  pub all-is : t .all ≡ allDigits s
+  pub total-is : allDigits s ≡ true → t .total ≡ sumOf (bytesOf s) % 256
   pub laid : allDigits s ≡ true → new ≡ lay old 0 (bytesOf s)
 
 -- a frame was read: the number of its first check that fails, with length 0; where none does, 0 and how long the contents are, which then stand at the

@@ -5,7 +5,6 @@ ghost use lib.ListN.{length};
 ghost use Rattle.frame.specs.Apart.{endsOk};
 ghost use Rattle.frame.specs.Read.{ReadInto};
 use crate::digits::decode;
-use crate::total::total_of;
 use output::Answer;
 
 // Bracketed as the definition is, so that the two compute alike.
@@ -35,12 +34,17 @@ pub fn read_into(frame: &[u8], work: &mut [u8]) -> Answer
     if !ends_ok(frame) {
         return Answer { number: 4, len: 0 };
     }
-    if !decode(&frame[1..n - 2], work) {
+    let tally = decode(&frame[1..n - 2], work);
+    let all = tally.all;
+    if !all {
         return Answer { number: 5, len: 0 };
     }
-    let k = (n - 3) / 2 - 1;
-    if total_of(&work[..k + 1]) != 0 {
+    let total = tally.total;
+    if total != 0 {
         return Answer { number: 6, len: 0 };
     }
-    Answer { number: 0, len: k }
+    Answer {
+        number: 0,
+        len: (n - 3) / 2 - 1,
+    }
 }

@@ -1,7 +1,6 @@
 // The total of bytes, by which a received frame is tested and from which the checksum of a written one comes.
 ghost use mathlib.Core.Path.{_≡_};
 ghost use Prim.Native.Nat.{_+_, _%_};
-ghost use Rattle.laws.specs.Bytes.{sumOf};
 ghost use Rattle.frame.specs.Digits.{checkOf};
 
 // As technicians add by hand (request 4): a carry past 8 bits is dropped at each byte.
@@ -9,18 +8,6 @@ pub(crate) fn added(total: u8, b: u8) -> u8
     ensures { λ r. ⌜ r ≡ (total + b) % 256 ⌝ }
 {
     ((total as u16 + b as u16) % 256) as u8
-}
-
-pub(crate) fn total_of(s: &[u8]) -> u8
-    ensures { λ r. ⌜ r ≡ sumOf (now (s .entry)) % 256 ⌝ }
-{
-    let mut total: u8 = 0;
-    let mut i = 0;
-    while i < s.len() {
-        total = added(total, s[i]);
-        i += 1;
-    }
-    total
 }
 
 // The checksum of bytes of that total.

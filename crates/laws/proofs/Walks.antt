@@ -18,3 +18,7 @@ next2 s i h =
 
 pub none-left : (s : List ℕ) (i : ℕ) → length s ≤ i → drop i s ≡ []
 none-left s i h = drop-of-length-le s h
+
+-- a list of one is that one
+pub alone : (s : List ℕ) → length s ≡ 1 → s ≡ getD s 0 0 ∷ []
+alone s h = next s 0 (omega arith) ∙ ap (λ (l : List ℕ). getD s 0 0 ∷ l) (none-left s 1 (omega arith))

@@ -54,17 +54,19 @@ fn constants_ok(body: &[u8]) -> bool
         & is_within(1, 13, byte(body, 7))
 }
 
+// Judged from the last byte back: a body that is long enough for that one is for all, so that its length is asked once. Bracketed as the definition is.
 fn clock_ok(body: &[u8]) -> bool
     ensures { λ r. ⌜ r ≡ clockOk (now (body .entry)) ⌝ }
 {
-    is_within(0, 59, byte(body, 3))
-        & is_within(0, 59, byte(body, 4))
-        & is_within(0, 23, byte(body, 5))
-        & is_within(1, 7, byte(body, 6))
-        & is_within(1, 31, byte(body, 7))
-        & is_within(1, 12, byte(body, 8))
-        & is_within(0, 99, byte(body, 9))
-        & is_blank(body, 10, 11)
+    let rest = is_blank(body, 10, 11);
+    let year = is_within(0, 99, byte(body, 9));
+    let month = is_within(1, 12, byte(body, 8));
+    let day = is_within(1, 31, byte(body, 7));
+    let weekday = is_within(1, 7, byte(body, 6));
+    let hour = is_within(0, 23, byte(body, 5));
+    let minute = is_within(0, 59, byte(body, 4));
+    let second = is_within(0, 59, byte(body, 3));
+    second & (minute & (hour & (weekday & (day & (month & (year & rest))))))
 }
 
 fn mode_ok(body: &[u8]) -> bool

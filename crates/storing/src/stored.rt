@@ -9,6 +9,7 @@ ghost use mathlib.Core.Path.{_≡_};
 ghost use Prim.Native.Nat.{_+_, _-_, _%_, _≤_};
 ghost use lib.ListN.{length};
 ghost use Rattle.laws.specs.Bytes.{slice, padded};
+ghost use Rattle.output.specs.Cursor.{Laid};
 ghost use Rattle.image.specs.Version.{current, imageLength};
 ghost use Rattle.image.specs.Cell.{offset, size, isCell};
 ghost use Rattle.image.specs.Words.{signatureWord};
@@ -55,6 +56,17 @@ fn put_bits(cell: Cell, m: &mut [u8])
     }
 }
 
+// At a cursor, a cell's bytes. One alone is put by itself: to copy several is a call of the C library's.
+fn put_bytes(start: Cursor, bytes: &[u8], m: &mut [u8]) -> Cursor
+    requires { ⌜ start .at + length (now bytes) ≤ length (now m) ⌝ }
+    ensures { λ r. ⌜ Laid (start .at) (r .at) (now (m .entry)) (now (m .exit)) (now (bytes .entry)) ⌝ }
+{
+    if bytes.len() == 1 {
+        return start.put(m, bytes[0]);
+    }
+    start.put_all(m, bytes)
+}
+
 // Zeros follow the bytes up to the cell's size, so that no old row stays behind a shorter error table.
 pub fn store(cell: Cell, bytes: &[u8], m: &mut [u8])
     requires { ⌜ (isCell cell ≡ true) × (length (now bytes) ≤ size cell) × (length (now m) ≡ imageLength current) ⌝ }
@@ -62,7 +74,7 @@ pub fn store(cell: Cell, bytes: &[u8], m: &mut [u8])
 {
     amend(cell, bytes, m);
     let start = Cursor { at: cell.offset() };
-    let past = start.put_all(m, bytes);
+    let past = put_bytes(start, bytes, m);
     let left = cell.size() - bytes.len();
     past.put_zeros(m, left);
     put_bits(cell, m);

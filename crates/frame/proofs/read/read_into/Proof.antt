@@ -2,10 +2,9 @@
 use mathlib.Core.Path.{_≡_, sym, ap, _∙_}
 use mathlib.Core.List.{List}
 use mathlib.Core.Bool.{Bool, true, false, cond}
-use Prim.Native.Nat.{ℕ, _+_, _-_, _/_, _%_, _≤_}
+use Prim.Native.Nat.{ℕ, _-_, _%_, _≤_}
 use native.Mathlib.Omega.{arith}
 use lib.ListN.{length, take, drop}
-use lib.Seq.{length-take-le}
 use lib.Dec.{eqb, lit<}
 use borrow.Author.Tests.{not-true, not-false, eq-eqb, ne-eqb}
 use borrow.Author.Needs.{needs}
@@ -13,7 +12,7 @@ use Rattle.laws.specs.Bytes.{lay, sumOf}
 use Rattle.laws.specs.Checks.{judged}
 use Rattle.frame.specs.Digits.{allDigits, bytesOf}
 use Rattle.frame.specs.Apart.{lengthOk, endsOk, inner, bodyOf, frameChecks}
-use Rattle.frame.proofs.Body.{chars-are, length-contents, work-contents, work-body}
+use Rattle.frame.proofs.Body.{chars-are, length-contents, work-contents}
 use Rattle.frame.proofs.Answers.{length-below, length-above, length-even, length-right, length-fails, ends-fail, digits-fail}
 use Rattle.frame.proofs.Answers.{sum-decides, refused-read, passed-read}
 use Rattle.frame.proofs.Totals.{sum-by-total}
@@ -43,7 +42,7 @@ ended c = c .before .before .before
 abbrev sized : tie.After-decode → tie.Else3
 sized c = ended c .before .before
 
-inner-is : (c : tie.After-decode) → c .decode .result ≡ allDigits (inner (frameAt (sized c)))
+inner-is : (c : tie.After-decode) → c .decode .result .all ≡ allDigits (inner (frameAt (sized c)))
 inner-is c = c .decode .ensures .all-is ∙ ap allDigits (chars-are _ (low (sized c)))
 
 module _ (c : tie.Else5) where
@@ -59,32 +58,30 @@ module _ (c : tie.Else5) where
   abbrev work : List ℕ
   work = decoded .decode .last .1 .0
 
-  -- the bytes before the checksum, as the code counts them
-  abbrev count : ℕ
-  count = (length frame - 3) / 2 - 1
-
   right-digits : allDigits (inner frame) ≡ true
   right-digits = sym (inner-is decoded) ∙ not-false _ (c .if5 .left)
 
+  told : allDigits (take (length frame - 2 - 1) (drop 1 frame)) ≡ true
+  told = sym (decoded .decode .ensures .all-is) ∙ not-false _ (c .if5 .left)
+
   -- what was laid into the array
   laid-is : work ≡ lay given 0 (bytesOf (take (length frame - 2 - 1) (drop 1 frame)))
-  laid-is = decoded .decode .ensures .laid (sym (decoded .decode .ensures .all-is) ∙ not-false _ (c .if5 .left))
+  laid-is = decoded .decode .ensures .laid told
+
+  total-is : decoded .decode .result .total ≡ sumOf (bodyOf frame) % 256
+  unfolding bodyOf
+  total-is = decoded .decode .ensures .total-is told ∙ ap (λ (s : List ℕ). sumOf (bytesOf s) % 256) (chars-are frame (low (sized decoded)))
 
   abbrev wide : 133 ≤ length given
   wide = sized decoded .before .before .before .before .before .pre
 
-  body-is : take (count + 1) work ≡ bodyOf frame
-  body-is = work-body frame (low (sized decoded)) (high (sized decoded)) given work wide laid-is
-
--- where the checks come to the sum, the total decides
-decided : (c : tie.After-total-of) (t : Bool) → eqb (c .total-of .result) 0 ≡ t → (A : Type 0) (no : ℕ → A) (after : A)
-    → judged no (frameChecks (frame (c .before .before))) after ≡ cond t after (no 6)
-unfolding inner bodyOf
-decided c t e A refusal after =
-    let d = c .before .before in
-    let total : c .total-of .result ≡ sumOf (take (count d + 1) (work d)) % 256 = c .total-of .ensures in
-    sum-decides refusal after _ t (right-length (sized (decoded d))) (right-ends (ended (decoded d))) (right-digits d)
-    (sum-by-total _ (right-digits d) ∙ rw (← body-is d, ← total) e)
+  -- where the checks come to the sum, the total decides
+  decided : (t : Bool) → eqb (decoded .decode .result .total) 0 ≡ t → (A : Type 0) (no : ℕ → A) (after : A)
+      → judged no (frameChecks frame) after ≡ cond t after (no 6)
+  unfolding inner bodyOf
+  decided t e A refusal after =
+      sum-decides refusal after _ t (right-length (sized decoded)) (right-ends (ended decoded)) right-digits
+      (sum-by-total _ right-digits ∙ rw (← total-is) e)
 
 -- ---- the needs
 
@@ -129,38 +126,26 @@ returns-5 c =
     let wrong = sym (inner-is d) ∙ not-true _ (c .if5 .taken) in
     refused-read _ _ 5 (lit< tt) (λ A refusal after. digits-fail refusal after _ (right-length (sized d)) (right-ends (ended d)) wrong)
 
-sub-k : tie.Need-sub-k
-sub-k c = omega arith
-
-sub-k-2 : tie.Need-sub-k-2
-sub-k-2 c = omega arith
-
-add-total-of : tie.Need-add-total-of
-add-total-of c = omega arith
-
-slice-reshare-prefix-total-of : tie.Need-slice-reshare-prefix-total-of
-slice-reshare-prefix-total-of c = search needs
-
-slice-aggregate-total-of : tie.Need-slice-aggregate-total-of
-slice-aggregate-total-of c = sym (length-take-le _ _ (search needs))
-
-total-of-requires : tie.Need-total-of-requires
-total-of-requires c κs = search needs
-
 same-length-2 : tie.Need-same-length-2
 same-length-2 c = search needs
 
 returns-6 : tie.Need-returns-6
 returns-6 c = refused-read _ _ 6 (lit< tt) (decided (c .before) false (ne-eqb _ 0 (c .if6 .taken)))
 
+sub-t11 : tie.Need-sub-t11
+sub-t11 c = omega arith
+
+sub-t16 : tie.Need-sub-t16
+sub-t16 c = omega arith
+
 same-length-3 : tie.Need-same-length-3
 same-length-3 c = search needs
 
 returns-7 : tie.Need-returns-7
 returns-7 c =
-    let d = c .before .before .before in
+    let d = c .before in
     let l = sized (decoded d) in
-    passed-read _ _ _ (decided (c .before) true (eq-eqb _ 0 (c .if6 .left))) (sym (length-contents (frame d) (low l)))
+    passed-read _ _ _ (decided d true (eq-eqb _ 0 (c .if6 .left))) (sym (length-contents (frame d) (low l)))
     (work-contents (frame d) (low l) (high l) (given d) (work d) (wide d) (laid-is d))
 
 pub read-into-spec : {M : Type 1} → statement M
@@ -179,13 +164,9 @@ read-into-spec =
     decode-requires
     same-length
     returns-5
-    sub-k
-    sub-k-2
-    add-total-of
-    slice-reshare-prefix-total-of
-    slice-aggregate-total-of
-    total-of-requires
     same-length-2
     returns-6
+    sub-t11
+    sub-t16
     same-length-3
     returns-7)

@@ -12,8 +12,8 @@ amend-requires c κs = search needs
 offset-requires : tie.Need-offset-requires
 offset-requires c κs = search needs
 
-put-all-requires : tie.Need-put-all-requires
-put-all-requires c κs =
+put-bytes-requires : tie.Need-put-bytes-requires
+put-bytes-requires c κs =
     let s = c .before .before .before .before .before .before .before .before in
     omega (arith, store-room (s .args .cell) (s .pre .0) (c .before .offset .ensures), s .pre .1)
 
@@ -44,7 +44,7 @@ returns c =
     let s = f .before .before .before .before in
     c .before .before .put-bits .ensures
     ∙ stored-is (s .args .cell) _ (s .args .bytes .now) (s .pre .0) (s .pre .1) (a .offset .ensures) (z .before .before .size .ensures)
-    (p .put-all .ensures .past) (f .amend .ensures) (p .put-all .ensures .laid) (z .put-zeros .ensures .laid)
+    (p .put-bytes .ensures .past) (f .amend .ensures) (p .put-bytes .ensures .laid) (z .put-zeros .ensures .laid)
 
 pub store-spec : {M : Type 1} → statement M
 store-spec =
@@ -52,7 +52,7 @@ store-spec =
     (tie.spec
     amend-requires
     offset-requires
-    put-all-requires
+    put-bytes-requires
     size-requires
     sub-left
     put-zeros-requires
