@@ -56,9 +56,9 @@
 
    Stack. Of the calls of tests/panel/cases.c, none of izk_serve was measured to take more than 552 bytes, and none of
    izk_held_parts more than 72, with the return address and what arguments the caller pushes counted in; tests/panel/stack.c
-   measures again, and IZK_STACK leaves a margin. That was in the kit's emulator with the kit's C library: another library's
-   memcpy and memset may take other amounts. With lazy binding the first call takes, besides, what the loader needs; linking
-   with -Wl,-z,now avoids that. */
+   measures again, and IZK_STACK leaves a margin. That was on an x86-64 machine with glibc 2.36: another library's memcpy and
+   memset may take other amounts. With lazy binding the first call takes, besides, what the loader needs; linking with
+   -Wl,-z,now avoids that. */
 
 #ifdef __cplusplus
 extern "C" {
@@ -68,7 +68,7 @@ extern "C" {
 
    frame, frame_len   one whole frame as it came, from 3Ah to 0Dh 0Ah; it is only read
    sealed             the key switch: 0 is unsealed, any other number sealed. It counts for this call alone and is stored nowhere. It
-                      has 64 bits so that no integer but 0 becomes 0 on its way
+                      has 64 bits so that no integer of 64 bits or fewer, but 0, becomes 0 on its way
    image, image_len   the block's memory
    out, out_len       where the reply goes
    len                where its length goes; what was there before does not matter

@@ -1,12 +1,12 @@
 -- Laws of digits, as the code's tests and loops cite them. Assumes nothing.
-use mathlib.Core.Path.{_≡_, refl}
+use mathlib.Core.Path.{_≡_}
 use mathlib.Core.Logic.{inl, inr, _⊎_}
 use mathlib.Core.List.{List, [], _∷_}
 use mathlib.Core.Bool.{true, false, _||_}
 use Prim.Native.Nat.{ℕ, zero, suc, _+_, _-_, _*_, _≤_, _<_}
 use native.Mathlib.Nat.{not-suc-le-zero}
 use native.Mathlib.Omega.{arith}
-use lib.ListN.{length, getD, drop, length-drop}
+use lib.ListN.{length, getD, drop}
 use borrow.Author.Tests.{lt-ltb, le-ltb}
 use Rattle.laws.specs.Checks.{within, all}
 use Rattle.laws.proofs.Tests.{and-both, or-either, within-is, within-in, within-below, within-above}
@@ -98,12 +98,6 @@ module _ (s : List ℕ) (i : ℕ) where
   unfolding bytesOf
   bytes-next h = rw (next2 s i h)
 
-  -- one character alone makes no byte
-  pub bytes-done : length s ≤ i + 1 → bytesOf (drop i s) ≡ []
+  pub bytes-done : length s ≤ i → bytesOf (drop i s) ≡ []
   unfolding bytesOf
-  bytes-done h = short (drop i s) (omega (arith, length-drop i s))
-    where
-      short : (l : List ℕ) → length l ≤ 1 → bytesOf l ≡ []
-      short [] h = refl
-      short (x ∷ []) h = refl
-      short (x ∷ (y ∷ l)) h = absurd (omega arith)
+  bytes-done h = rw (none-left s i h)

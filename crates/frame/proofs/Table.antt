@@ -1,6 +1,6 @@
 -- Digits told and read by a table, and two halves put together by a shift. Assumes nothing.
 use mathlib.Core.Path.{_≡_, refl, sym, ap, _∙_}
-use mathlib.Core.List.{List, [], _∷_}
+use mathlib.Core.List.{List, _∷_}
 use mathlib.Core.Bool.{Bool, true, false, cond, _&&_, and-assoc, and-true, and-false}
 use Prim.Native.Nat.{ℕ, _+_, _*_, _%_, _^_, _≤_, _<_}
 use native.Mathlib.Decide.{decLt}
@@ -10,7 +10,6 @@ use lib.Bits.{bitOr, or-add-and, and-le-l, and-le-r, or-lt, or-shifted}
 use lib.Pow.{shl-exact}
 use lib.Dec.{ltb, leb, eqb}
 use borrow.Author.Tests.{lt-ltb, le-ltb, leb-true, eqb-true}
-use Rattle.laws.specs.Bytes.{sumOf}
 use Rattle.laws.specs.Checks.{all}
 use Rattle.laws.proofs.Tests.{every-at}
 use Rattle.laws.proofs.Walks.{next2}
@@ -79,15 +78,3 @@ module _ (s : List ℕ) (i : ℕ) (more : i + 1 < length s) where
 
 pub all-told : (s : List ℕ) (i seen : ℕ) → length s ≤ i → (ltb seen 16 && allDigits (drop i s)) ≡ allDigits s → ltb seen 16 ≡ allDigits s
 all-told s i seen h e = sym (rw (all-done s i h) (and-true (ltb seen 16))) ∙ e
-
--- ---- the total, carries dropped
-
--- a turn adds the byte that it lays
-pub total-next : (total b new : ℕ) (l rest : List ℕ) → l ≡ b ∷ rest → new ≡ (total + b) % 256 → (new + sumOf rest) % 256 ≡ (total + sumOf l) % 256
-unfolding sumOf
-total-next total b new l rest e n = rw (e, n) (omega arith)
-
--- where no byte is left, it is that of all
-pub total-done : (total : ℕ) (l all : List ℕ) → total < 256 → l ≡ [] → (total + sumOf l) % 256 ≡ sumOf all % 256 → total ≡ sumOf all % 256
-unfolding sumOf
-total-done total l all h e t = omega (arith, rw e at t)

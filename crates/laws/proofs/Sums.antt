@@ -10,13 +10,20 @@ use Rattle.laws.specs.Bytes.{slice, lay, zeros, padded, sumOf}
 use Rattle.laws.proofs.Walks.{next, none-left}
 use Rattle.laws.proofs.Bytes.{length-lay, lay-out, slice-same, slice-lay, zeros-at}
 
-pub sum-next : (s : List ℕ) (i : ℕ) → i < length s → sumOf (drop i s) ≡ getD s i 0 + sumOf (drop (i + 1) s)
+pub sum-first : (l rest : List ℕ) (b : ℕ) → l ≡ b ∷ rest → sumOf l ≡ b + sumOf rest
 unfolding sumOf
-sum-next s i h = rw (next s i h)
+sum-first l rest b e = rw e
+
+pub sum-empty : (l : List ℕ) → l ≡ [] → sumOf l ≡ 0
+unfolding sumOf
+sum-empty l e = rw e
+
+-- of the rest of a list, from an index on
+pub sum-next : (s : List ℕ) (i : ℕ) → i < length s → sumOf (drop i s) ≡ getD s i 0 + sumOf (drop (i + 1) s)
+sum-next s i h = sum-first _ _ _ (next s i h)
 
 pub sum-done : (s : List ℕ) (i : ℕ) → length s ≤ i → sumOf (drop i s) ≡ 0
-unfolding sumOf
-sum-done s i h = rw (none-left s i h)
+sum-done s i h = sum-empty _ (none-left s i h)
 
 -- ---- put together and cut
 

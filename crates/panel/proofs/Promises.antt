@@ -1,6 +1,6 @@
--- What the two promises give the panel's host, in terms of what was returned and left: one outcome, what a refusal leaves, and that sealed no byte of
--- the image changes. Assumes nothing.
-use mathlib.Core.Path.{_≡_, ap, _∙_}
+-- What the two promises give the panel's host, in terms of what was returned and left: the block's own promises, one outcome, what a refusal leaves,
+-- and that sealed no byte of the image changes. Assumes nothing.
+use mathlib.Core.Path.{_≡_, refl, ap, _∙_}
 use mathlib.Core.Logic.{_≢_}
 use mathlib.Core.List.{List}
 use mathlib.Core.Bool.{true}
@@ -11,20 +11,35 @@ use Rattle.output.specs.declared.answer.Answer.{Answer}
 use Rattle.image.specs.declared.held.Held.{Held}
 use Rattle.image.specs.Version.{current}
 use Rattle.image.specs.Usable.{usable}
-use Rattle.command.specs.Reply.{BuffersAfter}
+use Rattle.image.specs.Held.{heldParts}
+use Rattle.rules.specs.declared.switch.Switch.{Switch}
+use Rattle.rules.specs.declared.switch.Switch.the-variants.{Unsealed, Sealed}
+use Rattle.command.specs.Reply.{BuffersAfter, Serves}
 use Rattle.izk.specs.Heard.{heard, answered}
+use Rattle.izk.specs.Block.{served}
 use Rattle.izk.proofs.Hearing.{heard-lawful}
 use Rattle.izk.proofs.Serving.{Way, early, through, way, answered-length}
 use Rattle.izk.proofs.OneOutcome.{serve-one-outcome, held-parts-one-outcome}
 use Rattle.izk.proofs.Refusals.{refused-changes-nothing, refused-held}
 use Rattle.izk.proofs.SealedCalls.{sealed-call-leaves}
 use Rattle.panel.specs.Panel.{switchOf, ServesPanel, TellsPanel}
-use Rattle.panel.proofs.Switches.{others-seal}
+use Rattle.panel.proofs.Switches.{zero-unseals, others-seal}
 use Rattle.panel.proofs.Tables.{above-refused}
 
 -- ---- serving: number k for the switch, a frame, an image and an output
 
 module _ (k : ℕ) (f m out : List ℕ) where
+  -- what is promised is the block's own promise, in the position that the number stands for
+  module _ (r n : ℕ) (m′ o : List ℕ) where
+    abbrev Promised : Switch → Type 0
+    Promised s = Serves (served (heard s) current f m out) (record { number = r; len = n }) m′ o
+
+    pub panel-unsealed : k ≡ 0 → ServesPanel k f m out r n m′ o ≡ Promised Unsealed
+    panel-unsealed z = ap Promised (zero-unseals k z)
+
+    pub panel-sealed : k ≢ 0 → ServesPanel k f m out r n m′ o ≡ Promised Sealed
+    panel-sealed z = ap Promised (others-seal k z)
+
   pub panel-one-outcome : (r s n l : ℕ) (m′ m″ o p : List ℕ) → ServesPanel k f m out r n m′ o → ServesPanel k f m out s l m″ p
       → (r ≡ s) × (n ≡ l) × (m′ ≡ m″) × (o ≡ p)
   panel-one-outcome r s n l m′ m″ o p x y =
@@ -56,6 +71,10 @@ module _ (k : ℕ) (f m out : List ℕ) where
 -- ---- held parts: an image, and number t for the table
 
 module _ (m : List ℕ) (t : ℕ) where
+  -- what is promised is the block's own answer for that number
+  pub panel-tells : (r p q : ℕ) → TellsPanel m t r p q ≡ (_≡_ {A = Held} (record { number = r; parts = p; missing = q }) (heldParts current m t))
+  panel-tells r p q = refl
+
   pub panel-held-one-outcome : (r s p p′ q q′ : ℕ) → TellsPanel m t r p q → TellsPanel m t s p′ q′ → (r ≡ s) × (p ≡ p′) × (q ≡ q′)
   panel-held-one-outcome r s p p′ q q′ x y =
       let e = held-parts-one-outcome m t _ _ x y in

@@ -54,7 +54,8 @@ fn constants_ok(body: &[u8]) -> bool
         & is_within(1, 13, byte(body, 7))
 }
 
-// Judged from the last byte back: a body that is long enough for that one is for all, so that its length is asked once. Bracketed as the definition is.
+// Judged from the last byte back: a body that is long enough for that one is for all, so that the compiler can ask for the length once. Bracketed as
+// the definition is.
 fn clock_ok(body: &[u8]) -> bool
     ensures { λ r. ⌜ r ≡ clockOk (now (body .entry)) ⌝ }
 {

@@ -9,9 +9,10 @@ use lib.Dec.{ltb}
 use borrow.Author.Needs.{needs}
 use Rattle.laws.specs.Bytes.{lay, sumOf}
 use Rattle.laws.proofs.Bytes.{lay-next, lay-done}
+use Rattle.laws.proofs.Sums.{sum-first, sum-empty}
 use Rattle.frame.specs.Digits.{allDigits, bytesOf}
 use Rattle.frame.proofs.Chars.{bytes-done}
-use Rattle.frame.proofs.Table.{entry-tells, told-next, byte-next, total-next, all-told, total-done}
+use Rattle.frame.proofs.Table.{entry-tells, told-next, byte-next, all-told}
 use Rattle.frame.proofs.digits.decode_by.Statement.{statement}
 use Rattle.frame.proofs.digits.decode_by.Tie as tie
 
@@ -82,7 +83,7 @@ loop-again c =
       length-set (l .loop .work) k _ ∙ l .loop .inv .1,
       omega (arith, c .added .ensures),
       rw e (told-next s (2 * k) more (l .loop .seen) _ _ (entry-tells t ok _ p) (entry-tells t ok _ q) ∙ l .loop .inv .3),
-      λ d. rw e (total-next _ _ _ _ _ (byte-next s (2 * k) more t ok p q d) (c .added .ensures) ∙ l .loop .inv .4 d),
+      λ d. rw e (omega (arith, c .added .ensures, sum-first _ _ _ (byte-next s (2 * k) more t ok p q d), l .loop .inv .4 d)),
       λ d. rw e (lay-next _ _ _ _ _ _ (byte-next s (2 * k) more t ok p q d) (l .loop .inv .5 d)),
     )
 
@@ -96,7 +97,7 @@ returns c =
     let none = bytes-done s (2 * l .k) (omega arith) in
     record {
       all-is = all-told s (2 * l .k) (l .seen) (omega arith) (l .inv .3);
-      total-is = λ d. total-done _ _ _ (l .inv .2) none (l .inv .4 d);
+      total-is = λ d. omega (arith, sum-empty _ none, l .inv .4 d);
       laid = λ d. lay-done _ _ _ _ none (l .inv .5 d);
     }
 
