@@ -37,7 +37,27 @@ is-within-requires c κs = search needs
 
 returns : tie.Need-returns
 unfolding constantsOk
-returns c = simp and-assoc (cc)
+returns c =
+    let b8 = c .before .before in
+    let b7 = b8 .before in
+    let b6 = b7 .before in
+    let b5 = b6 .before in
+    let b4 = b5 .before in
+    let b3 = b4 .before in
+    let b2 = b3 .before in
+    let b1 = b2 .before in
+    simp and-assoc (rw (
+      c .is-within .ensures,
+      c .before .byte .ensures,
+      b8 .is-blank8 .ensures,
+      b7 .is-blank7 .ensures,
+      b6 .is-blank6 .ensures,
+      b5 .is-blank5 .ensures,
+      b4 .is-blank4 .ensures,
+      b3 .is-blank3 .ensures,
+      b2 .is-blank2 .ensures,
+      b1 .is-blank .ensures,
+    ))
 
 pub constants-ok-spec : {M : Type 1} → statement M
 constants-ok-spec =
