@@ -21,8 +21,8 @@ pub(crate) struct Tally {
 }
 
 // Digits are told, read and added up in one pass: by the table a digit stands for a number below 16, and no other character does. Nothing is left early,
-// so that a long frame costs no guess at its end; and the total is taken on the way, since a byte that was just stored is slow to be read again among
-// others. The table is handed in, so that its list stays a name in the proof.
+// so that a long frame costs no guess at its end; and the total is taken on the way, since a pass over what was just stored took longer than the rest of
+// a short frame's decoding. The table is handed in, so that its list stays a name in the proof.
 fn decode_by(s: &[u8], table: &[u8; 256], work: &mut [u8]) -> Tally
     requires { ⌜ (length (now s) ≤ 2 * length (now work)) × (length (now s) % 2 ≡ 0) × (readsDigits (now table) ≡ true) ⌝ }
     ensures { λ r. ⌜ Decoded (now (s .entry)) (now (work .entry)) r (now (work .exit)) ⌝ }
