@@ -9,6 +9,7 @@ mod word;
 pub use cell::Cell;
 pub use cell::Named;
 pub use cell::Signed;
+pub use cell::table_index;
 pub use fresh::freshen;
 pub use held::Held;
 pub use held::held_parts;

@@ -58,6 +58,18 @@ fn held(rec: &[u8], image: &[u8]) {
     print::end();
 }
 
+fn quantity(rec: &[u8], image: &[u8]) {
+    let q = tables::quantity_at(
+        image,
+        script::four(rec, 1) as u32,
+        script::four(rec, 5) as u32,
+    );
+    print::letter(b'A');
+    print::number(q.number as u64);
+    print::number(q.volume as u64);
+    print::end();
+}
+
 fn take_apart(frame: &[u8], out: &mut [u8]) {
     answered(b'T', izk::take_apart(frame, out));
     print::bytes(out);
@@ -91,6 +103,7 @@ fn call(rec: &[u8], image: &mut [u8], out: &mut [u8]) {
     let letter = script::byte(rec, 0);
     let from = least(3, rec.len());
     match letter {
+        b'A' => quantity(rec, image),
         b'F' => fresh(script::byte(rec, 1), image),
         b'H' => held(rec, image),
         b'K' => serve(letter, Switch::Sealed, &rec[from..], image, out),

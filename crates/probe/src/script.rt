@@ -63,6 +63,7 @@ fn least_size(letter: u8) -> usize
         b'B' | b'K' | b'N' | b'S' | b'T' | b'V' => 3,
         b'L' | b'O' | b'Q' => 4,
         b'H' | b'P' => 5,
+        b'A' => 9,
         b'R' => 10,
         _ => 0,
     }

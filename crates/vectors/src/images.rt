@@ -84,6 +84,18 @@ pub(crate) fn held(image: &[u8], table: u32) {
     print::next(h.missing as usize);
 }
 
+// By a table whose number is one byte, or two with the high byte first.
+pub(crate) fn quantity(image: &[u8], level: u32, two: bool, a: u8, b: u8) {
+    let table = if two {
+        256 * (a as u32) + (b as u32)
+    } else {
+        a as u32
+    };
+    let q = tables::quantity_at(image, table, level);
+    print::start(q.number as usize);
+    print::next(q.volume as usize);
+}
+
 // The sum of the first n bytes.
 pub(crate) fn total(image: &[u8], n: usize) {
     if 65536 < n {

@@ -15,7 +15,7 @@ use libc::STDIN_FILENO;
 const LONGER: usize = IMAGE_LENGTH + 1;
 
 // More than the cases take, for which `io::large_buffer` is too small. What lay past it would not be read, and the output would be short of `stdout`.
-const CASES_ROOM: usize = 196608;
+const CASES_ROOM: usize = 262144;
 
 fn main() {
     let mut text = [0u8; CASES_ROOM];

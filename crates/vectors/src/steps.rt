@@ -32,6 +32,7 @@ fn call(letter: u8, number: u32, bytes: &[u8], a: u8, b: u8, switch: Switch, ima
         b'i' => images::list(image, n, false),
         b'm' => images::mark(image, a, b),
         b'n' => print::start(izk::fresh(image, a) as usize),
+        b'q' => images::quantity(image, number, 1 < bytes.len(), a, b),
         b't' => images::total(image, n),
         b'u' => images::usable(image, a),
         _ => answers::answer_into(letter, bytes, switch, n, image),
