@@ -9,7 +9,7 @@ use native.Mathlib.Omega.{arith}
 use borrow.Author.Tests.{eq-eqb, ne-eqb}
 use Rattle.laws.specs.Checks.{every}
 use Rattle.tables.specs.Rows.{climbs, lastRow, between, given, volumeAt}
-use Rattle.tables.proofs.Between.{RoundedDown, between-rounded, between-least, between-most, between-climbs, between-here}
+use Rattle.tables.proofs.Between.{RoundedDown, rounded-one, between-rounded, between-least, between-most, between-climbs, between-here}
 use Rattle.tables.proofs.LastRow.{Last, last-is, is-last, levels-climb, volumes-climb}
 
 module _ (level volume : ℕ → ℕ) (n x i : ℕ) (e : i ≡ lastRow level x n) where
@@ -30,6 +30,20 @@ pub record By (level volume : ℕ → ℕ) (n x i q : ℕ) : Type 0 where
   pub most : i < n → q ≤ volume (i + 1)
   pub apart : i < n → level i < level (i + 1)
   pub share : i < n → RoundedDown ((volume (i + 1) - volume i) * (x - level i)) (level (i + 1) - level i) (q - volume i)
+
+-- there is one answer
+pub one-answer : (level volume : ℕ → ℕ) (n x i j q r : ℕ) → By level volume n x i q → By level volume n x j r → q ≡ r
+one-answer level volume n x i j q r a b = go (rw (← same) at b) (ℕ-discrete i n)
+  where
+    same : i ≡ j
+    same = sym (last-is level n x i (a .row)) ∙ last-is level n x j (b .row)
+
+    go : By level volume n x i r → Dec (i ≡ n) → q ≡ r
+    go c (yes e) = a .last e ∙ sym (c .last e)
+    go c (no e) =
+        let l : i < n = omega (arith, a .row .most) in
+        let z = rounded-one _ _ _ _ (a .share l) (c .share l) in
+        omega (arith, a .least, c .least)
 
 module _ (level volume : ℕ → ℕ) (n : ℕ) (h : every (climbs level volume) n ≡ true) where
   pub answer-by : (x : ℕ) → level 0 ≤ x → By level volume n x (lastRow level x n) (volumeAt level volume n x)

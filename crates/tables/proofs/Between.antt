@@ -1,7 +1,8 @@
 -- A volume between those of two rows: rounded down, never less than the lower, never more than the upper, and never falling. Assumes nothing.
 use mathlib.Core.Path.{_≡_}
 use Prim.Native.Nat.{ℕ, _+_, _-_, _*_, _/_, _≤_, _<_}
-use native.Mathlib.Nat.{mul-le-mul-left, div-le-of-le-mul, le-div-iff-mul-le, div-mul-le-self, lt-div-mul-add, add-mul, one-mul, zero-div, mul-zero, le-trans}
+use native.Mathlib.Nat.{mul-le-mul-left, mul-le-mul-right, div-le-of-le-mul, le-div-iff-mul-le, div-mul-le-self, lt-div-mul-add, add-mul, one-mul, zero-div, mul-zero, le-trans}
+use native.Mathlib.Decide.{decLt}
 use native.Mathlib.Omega.{arith}
 use Rattle.tables.specs.Rows.{between}
 
@@ -19,6 +20,15 @@ RoundedDown n g q = (q * g ≤ n) × (n < (q + 1) * g)
 
 rounded : (n g : ℕ) → 0 < g → RoundedDown n g (n / g)
 rounded n g p = (div-mul-le-self n g, rw (add-mul (n / g) 1 g, one-mul) (lt-div-mul-add p))
+
+-- there is one such quotient
+pub rounded-one : (n g q r : ℕ) → RoundedDown n g q → RoundedDown n g r → q ≡ r
+rounded-one n g q r (a, b) (c, d) = go (decLt q r) (decLt r q)
+  where
+    go : Dec (q < r) → Dec (r < q) → q ≡ r
+    go (yes l) e = let z = mul-le-mul-right {m = q + 1} {n = r} g (omega arith) in absurd (omega arith)
+    go (no k) (yes l) = let z = mul-le-mul-right {m = r + 1} {n = q} g (omega arith) in absurd (omega arith)
+    go (no k) (no e) = omega arith
 
 -- ---- between two rows
 

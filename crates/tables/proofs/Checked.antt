@@ -10,8 +10,9 @@ use Rattle.laws.proofs.Tests.{within-is, within-in, within-below, within-above}
 use Rattle.laws.proofs.Checks.{Judged, passed, failed, judge, gives-one, none-fails}
 use Rattle.image.specs.declared.held.Held.{Held}
 use Rattle.image.specs.declared.version.Version.{Version}
-use Rattle.image.specs.Cell.{tableIndex}
+use Rattle.image.specs.Cell.{isTable, tableIndex}
 use Rattle.image.specs.Words.{tableWord}
+use Rattle.image.specs.Usable.{usable}
 use Rattle.image.specs.Held.{lowestMissing, unheld, heldOf, heldChecks, heldParts}
 use Rattle.izk.proofs.Refusals.{held-gives}
 use Rattle.tables.specs.declared.quantity.Quantity.{Quantity}
@@ -28,6 +29,31 @@ module _ (v : Version) (m : List ℕ) (t x : ℕ) where
   unfolding risingFrom
   quantity-rise = refl
 
+  -- ---- each for its own reason
+
+  pub unusable-is-1 : usable v m ≡ false → quantityAt v m t x ≡ unanswered 1
+  unfolding quantityAt judged
+  unusable-is-1 u = rw u
+
+  module _ (u : usable v m ≡ true) where
+    pub no-table-is-10 : isTable t ≡ false → quantityAt v m t x ≡ unanswered 10
+    unfolding quantityAt judged
+    no-table-is-10 h = rw (u, h)
+
+    module _ (h : isTable t ≡ true) where
+      pub lacking-is-12 : whole m t ≡ false → quantityAt v m t x ≡ unanswered 12
+      unfolding quantityAt judged
+      lacking-is-12 w = rw (u, h, w)
+
+      module _ (w : whole m t ≡ true) where
+        pub falling-is-13 : neverFall (tableBytes m t) ≡ false → quantityAt v m t x ≡ unanswered 13
+        unfolding quantityAt judged
+        falling-is-13 n = rw (u, h, w, n)
+
+        pub outside-is-14 : neverFall (tableBytes m t) ≡ true → covers (tableBytes m t) x ≡ false → quantityAt v m t x ≡ unanswered 14
+        unfolding quantityAt judged
+        outside-is-14 n c = rw (u, h, w, n, c)
+
 -- ---- by the held-parts question, h
 
 module _ (v : Version) (m : List ℕ) (t : ℕ) (h : Held) (e : h ≡ heldParts v m t) where
@@ -38,9 +64,9 @@ module _ (v : Version) (m : List ℕ) (t : ℕ) (h : Held) (e : h ≡ heldParts 
       none-fails 0 (heldChecks v m t) refl (sym (gives-one (heldChecks v m t) _ (held-gives v m t)) ∙ sym (ap (λ (a : Held). a .number) e) ∙ z)
 
   -- its refusals are the first two
-  pub refused-held : (x : ℕ) → h .number ≢ 0 → quantityAt v m t x ≡ unanswered (h .number)
+  pub held-refused : (x : ℕ) → h .number ≢ 0 → quantityAt v m t x ≡ unanswered (h .number)
   unfolding quantityAt heldParts heldOf judged
-  refused-held x n = go (judge (heldChecks v m t))
+  held-refused x n = go (judge (heldChecks v m t))
     where
       go : Judged (heldChecks v m t) → quantityAt v m t x ≡ unanswered (h .number)
       go (passed p) = absurd (n (ap (λ (a : Held). a .number) e ∙ rw (p .0, p .1 .0)))
@@ -55,8 +81,8 @@ module _ (v : Version) (m : List ℕ) (t : ℕ) (h : Held) (e : h ≡ heldParts 
 
     -- a part that is missing is 12
     pub part-missing : h .missing ≢ 0 → quantityAt v m t x ≡ unanswered 12
-    unfolding quantityAt judged whole
-    part-missing n = let p = held-passes z in rw (p .0, p .1 .0, ne-eqb _ 0 (λ i. n (missing-is ∙ i)))
+    unfolding whole
+    part-missing n = let p = held-passes z in lacking-is-12 v m t x (p .0) (p .1 .0) (ne-eqb _ 0 (λ i. n (missing-is ∙ i)))
 
     -- where none is, the rows decide
     pub none-missing : h .missing ≡ 0 → quantityAt v m t x ≡ judged unanswered (rowChecks (tableBytes m t) x) (answered (tableBytes m t) x)
@@ -74,11 +100,11 @@ module _ (s : List ℕ) (x : ℕ) where
   unfolding covers
   covers-if = within-in (level s 0) (level s 351) x
 
-  covers-below : x < level s 0 → covers s x ≡ false
+  pub covers-below : x < level s 0 → covers s x ≡ false
   unfolding covers
   covers-below = within-below (level s 0) (level s 351) x
 
-  covers-above : level s 351 < x → covers s x ≡ false
+  pub covers-above : level s 351 < x → covers s x ≡ false
   unfolding covers
   covers-above = within-above (level s 0) (level s 351) x
 

@@ -67,11 +67,11 @@ along f n h i (suc j) a b = go (ℕ-discrete i (suc j)) (λ l. along f n h i j l
 
 module _ (level volume : ℕ → ℕ) where
   -- what the test of one step says
-  pub climbs-is : (i : ℕ) → climbs level volume i ≡ true → (level i ≤ level (i + 1)) × (volume i ≤ volume (i + 1))
+  climbs-is : (i : ℕ) → climbs level volume i ≡ true → (level i ≤ level (i + 1)) × (volume i ≤ volume (i + 1))
   unfolding climbs
   climbs-is i h = let p = and-both _ _ h in (leb-true _ _ (p .0), leb-true _ _ (p .1))
 
-  pub climbs-if : (i : ℕ) → level i ≤ level (i + 1) → volume i ≤ volume (i + 1) → climbs level volume i ≡ true
+  climbs-if : (i : ℕ) → level i ≤ level (i + 1) → volume i ≤ volume (i + 1) → climbs level volume i ≡ true
   unfolding climbs
   climbs-if i a b = rw (le-leb _ _ a, le-leb _ _ b)
 
@@ -80,9 +80,9 @@ module _ (level volume : ℕ → ℕ) where
   unfolding climbs
   level-falls i a = rw (lt-leb _ _ a)
 
-  pub level-stays : (i : ℕ) → level i ≤ level (i + 1) → climbs level volume i ≡ leb (volume i) (volume (i + 1))
+  pub level-climbs : (i : ℕ) → level i ≤ level (i + 1) → climbs level volume i ≡ leb (volume i) (volume (i + 1))
   unfolding climbs
-  level-stays i a = rw (le-leb _ _ a)
+  level-climbs i a = rw (le-leb _ _ a)
 
   module _ (n : ℕ) (h : every (climbs level volume) n ≡ true) where
     pub levels-climb : (i j : ℕ) → i ≤ j → j ≤ n → level i ≤ level j
@@ -91,7 +91,7 @@ module _ (level volume : ℕ → ℕ) where
     pub volumes-climb : (i j : ℕ) → i ≤ j → j ≤ n → volume i ≤ volume j
     volumes-climb = along volume n (λ k l. climbs-is k (every-at (climbs level volume) n k h l) .1)
 
-  -- the test of all steps passes exactly where neither falls from a row to any later one
+  -- where neither falls from a row to any later one, the test of all steps passes
   climb-if : (n : ℕ) → ((i j : ℕ) → i ≤ j → j ≤ n → (level i ≤ level j) × (volume i ≤ volume j)) → every (climbs level volume) n ≡ true
   climb-if n h = every-of (climbs level volume) n (λ i l. let p = h i (i + 1) (omega arith) (omega arith) in climbs-if i (p .0) (p .1))
 

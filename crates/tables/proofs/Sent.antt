@@ -1,9 +1,9 @@
 -- The rows that a question reads are those that 59 sent, and frames that write no part of a table change no answer by it: after any frames with any outputs,
 -- the switch turned between them or not, on any image. Assumes nothing.
 use mathlib.Core.Path.{_≡_, refl, sym, ap, _∙_}
-use mathlib.Core.List.{List}
-use mathlib.Core.Bool.{Bool, true, false}
-use Prim.Native.Nat.{ℕ, _+_, _-_, _*_, _/_, _%_, _≤_, _<_}
+use mathlib.Core.List.{List, [], _∷_}
+use mathlib.Core.Bool.{Bool, true, false, cond, _||_}
+use Prim.Native.Nat.{ℕ, zero, suc, _+_, _-_, _*_, _/_, _%_, _≤_, _<_}
 use native.Mathlib.Omega.{arith}
 use lib.ListN.{length, getD, drop}
 use lib.Seq.{getD-drop}
@@ -19,18 +19,19 @@ use Rattle.image.specs.declared.version.Version.{Version}
 use Rattle.image.specs.Cell.{isTable, tableIndex}
 use Rattle.image.specs.Words.{tableWord}
 use Rattle.image.specs.Usable.{usable}
+use Rattle.image.specs.Fresh.{fresh}
 use Rattle.image.proofs.Cells.{part-numbers}
 use Rattle.image.proofs.Indices.{index-below}
 use Rattle.image.proofs.UsableFacts.{facts}
 use Rattle.rules.specs.declared.switch.Switch.{Switch}
 use Rattle.izk.specs.Heard.{Hearing, Lawful}
-use Rattle.izk.specs.Since.{Turn, inTurn, left}
+use Rattle.izk.specs.Since.{Turn, inTurn, left, ever, wrote, everWrote}
 use Rattle.izk.proofs.Turns.{Went, refused, accepted, went, by-turns, left-usable}
 use Rattle.izk.proofs.Changes.{Kept}
+use Rattle.izk.proofs.HeldSince.{held-since}
 use Rattle.repeats.specs.Written.{noTurn, Unwritten, LastWrite}
-use Rattle.repeats.proofs.Written.{Holds}
 use Rattle.repeats.proofs.Last.{unwritten-keeps, last-write-holds}
-use Rattle.repeats.proofs.Numbers.{holds-part, kept-each}
+use Rattle.repeats.proofs.Numbers.{holds-part, kept-each, part-wrote}
 use Rattle.tables.specs.Rows.{level, volume}
 use Rattle.tables.specs.Quantity.{tableBytes, whole, quantityAt}
 use Rattle.tables.proofs.Stands.{slice-word}
@@ -47,10 +48,18 @@ part-word m t p i l h =
     slice-word (1225 + 1408 * tableIndex t) 1408 m (128 * p + i) (omega arith)
     ∙ rw e (sym (slice-word (1225 + 1408 * tableIndex t + 128 * p) 128 m i h))
 
--- word k of what stands behind the first n bytes of a list
-drop-word : (n : ℕ) (l : List ℕ) (k : ℕ) → wordAt (drop n l) k ≡ wordAt l (n + k)
-unfolding wordAt
-drop-word n l k = let e : n + (k + 1) ≡ n + k + 1 = omega arith in rw (getD-drop, getD-drop, e)
+-- row i of the 32 of part p, parts counted from 1: which row of the table it is
+abbrev pub rowOf : ℕ → ℕ → ℕ
+rowOf p i = 32 * (p - 1) + i
+
+-- it is row i of the part's bytes
+part-row : (m : List ℕ) (t p i : ℕ) → p - 1 < 11 → i < 32
+    → let s = slice (1225 + 1408 * tableIndex t + 128 * (p - 1)) 128 m in
+    (level (tableBytes m t) (rowOf p i) ≡ level s i) × (volume (tableBytes m t) (rowOf p i) ≡ volume s i)
+part-row m t p i few l =
+    let a : 4 * rowOf p i ≡ 128 * (p - 1) + 4 * i = omega arith in
+    let b : 4 * rowOf p i + 2 ≡ 128 * (p - 1) + (4 * i + 2) = omega arith in
+    (rw a (part-word m t (p - 1) (4 * i) few (omega arith)), rw b (part-word m t (p - 1) (4 * i + 2) few (omega arith)))
 
 -- row i of the 32 that a body sends: four bytes each from byte 5 on, level first
 abbrev pub sentLevel : List ℕ → ℕ → ℕ
@@ -59,32 +68,44 @@ sentLevel c i = wordAt c (4 + 4 * i)
 abbrev pub sentVolume : List ℕ → ℕ → ℕ
 sentVolume c i = wordAt c (6 + 4 * i)
 
--- part p of a table, from 0, has rows 32 p to 32 p + 31 of the table, and these are the rows of a body
-abbrev pub RowsAre : List ℕ → ℕ → ℕ → List ℕ → Type 0
-RowsAre s p i c = (level s (32 * p + i) ≡ sentLevel c i) × (volume s (32 * p + i) ≡ sentVolume c i)
-
-rows-held : (t p : ℕ) (f m : List ℕ) → 1 ≤ p → Holds (Part (tableIndex t) (p - 1)) f m → (i : ℕ) → i < 32
-    → RowsAre (tableBytes m t) (p - 1) i (contentsOf f)
-rows-held t p f m low h i l =
-    let few = part-numbers (tableIndex t) (p - 1) (h .fits .cell) .1 in
-    let bytes = holds-part f m t p h .0 in
-    let a : 4 * (32 * (p - 1) + i) ≡ 128 * (p - 1) + 4 * i = omega arith in
-    let b : 4 * (32 * (p - 1) + i) + 2 ≡ 128 * (p - 1) + (4 * i + 2) = omega arith in
-    let d : 4 + (4 * i + 2) ≡ 6 + 4 * i = omega arith in (
-      rw (a, part-word m t (p - 1) (4 * i) few (omega arith), bytes) (drop-word 4 (contentsOf f) (4 * i)),
-      rw (b, part-word m t (p - 1) (4 * i + 2) few (omega arith), bytes, ← d) (drop-word 4 (contentsOf f) (4 * i + 2)),
-    )
+-- word k of what stands behind the first n bytes of a list
+drop-word : (n : ℕ) (l : List ℕ) (k : ℕ) → wordAt (drop n l) k ≡ wordAt l (n + k)
+unfolding wordAt
+drop-word n l k = let e : n + (k + 1) ≡ n + k + 1 = omega arith in rw (getD-drop, getD-drop, e)
 
 module _ (ear : Switch → Hearing) (ok : (s : Switch) → Lawful (ear s)) (v : Version) (m : List ℕ) (xs : List Turn) (t : ℕ) where
-  -- where some turn was an accepted write of a part, the rows are those of the last that was
-  pub rows-as-sent : (p k : ℕ) → 1 ≤ p → LastWrite ear v (Part (tableIndex t) (p - 1)) m xs k
-      → (i : ℕ) → i < 32 → RowsAre (tableBytes (left ear v m xs) t) (p - 1) i (contentsOf (getD xs k noTurn .frame))
-  rows-as-sent p k low h = rows-held t p _ _ low (last-write-holds ear ok v (Part (tableIndex t) (p - 1)) m xs k h)
-
-  -- ---- no part of the table was written
-
   abbrev after : List ℕ
   after = left ear v m xs
+
+  -- where some turn was an accepted write of a part, the rows are those of the last that was
+  pub rows-as-sent : (p k : ℕ) → LastWrite ear v (Part (tableIndex t) (p - 1)) m xs k → (i : ℕ) → i < 32
+      → let c = contentsOf (getD xs k noTurn .frame) in
+      (level (tableBytes after t) (rowOf p i) ≡ sentLevel c i) × (volume (tableBytes after t) (rowOf p i) ≡ sentVolume c i)
+  rows-as-sent p k w i l =
+      let h = last-write-holds ear ok v (Part (tableIndex t) (p - 1)) m xs k w in
+      let r = part-row after t p i (part-numbers (tableIndex t) (p - 1) (h .fits .cell) .1) l in
+      let c = contentsOf (getD xs k noTurn .frame) in
+      let e : 4 + (4 * i + 2) ≡ 6 + 4 * i = omega arith in
+      let sent = holds-part (getD xs k noTurn .frame) after t p h .0 in
+      (r .0 ∙ rw sent (drop-word 4 c (4 * i)), r .1 ∙ rw (sent, ← e) (drop-word 4 c (4 * i + 2)))
+
+  part-stays : (p : ℕ) → isTable t ≡ true → 1 ≤ p → p ≤ 11 → Unwritten ear v (Part (tableIndex t) (p - 1)) m xs → Kept (Part (tableIndex t) (p - 1)) m after
+  part-stays p table low high none =
+      let few : p - 1 < 11 = omega arith in
+      unwritten-keeps ear ok v (Part (tableIndex t) (p - 1)) m xs (rw (lt-ltb (tableIndex t) 16 (index-below t table), lt-ltb (p - 1) 11 few)) none
+
+  -- where none was, they are those that the image had
+  pub rows-stay : (p : ℕ) → isTable t ≡ true → 1 ≤ p → p ≤ 11 → Unwritten ear v (Part (tableIndex t) (p - 1)) m xs → (i : ℕ) → i < 32
+      → (level (tableBytes after t) (rowOf p i) ≡ level (tableBytes m t) (rowOf p i))
+      × (volume (tableBytes after t) (rowOf p i) ≡ volume (tableBytes m t) (rowOf p i))
+  rows-stay p table low high none i l =
+      let bytes = part-stays p table low high none .bytes in
+      let few : p - 1 < 11 = omega arith in
+      let a = part-row after t p i few l in
+      let b = part-row m t p i few l in
+      (a .0 ∙ rw bytes (sym (b .0)), a .1 ∙ rw bytes (sym (b .1)))
+
+  -- ---- no part of the table was written
 
   -- nothing is served on an image that is not usable
   unusable-stays : usable v m ≡ false → after ≡ m
@@ -98,13 +119,12 @@ module _ (ear : Switch → Hearing) (ok : (s : Switch) → Lawful (ear s)) (v : 
           → usable v m ≡ false → m′ ≡ m
       one m x xs m′ ih h = let e = same m x h (went ear ok v m x) in ih (rw e h) ∙ e
 
-  module _ (none : (p : ℕ) → 1 ≤ p → p ≤ 11 → Unwritten ear v (Part (tableIndex t) (p - 1)) m xs) where
+  module _ (none : isTable t ≡ true → (p : ℕ) → 1 ≤ p → p ≤ 11 → Unwritten ear v (Part (tableIndex t) (p - 1)) m xs) where
     module _ (u : usable v m ≡ true) (table : isTable t ≡ true) where
       kept : (p : ℕ) → p < 11 → Kept (Part (tableIndex t) p) m after
       kept p l =
           let e : p + 1 - 1 ≡ p = omega arith in
-          unwritten-keeps ear ok v (Part (tableIndex t) p) m xs (rw (lt-ltb (tableIndex t) 16 (index-below t table), lt-ltb p 11 l))
-          (rw e at (none (p + 1) (omega arith) (omega arith)))
+          rw e at (part-stays (p + 1) table (omega arith) (omega arith) (none table (p + 1) (omega arith) (omega arith)))
 
       long : length after ≡ length m
       long = facts v after (left-usable ear ok v m xs u) .long-is ∙ sym (facts v m u .long-is)
@@ -140,3 +160,48 @@ module _ (ear : Switch → Hearing) (ok : (s : Switch) → Lawful (ear s)) (v : 
         go false b u h = rw (unusable-stays u)
         go true false u h = rw (left-usable ear ok v m xs u, u, h)
         go true true u h = rw (left-usable ear ok v m xs u, u, h, whole-stays u h, bytes-stay u h)
+
+-- ---- by the frames' own bytes and the numbers that they were given
+
+neither : (a b : Bool) → a || b ≡ false → (a ≡ false) × (b ≡ false)
+neither true b h = absurd (never (sym h))
+neither false b h = (refl, h)
+
+module _ (ear : Switch → Hearing) (ok : (s : Switch) → Lawful (ear s)) (v : Version) (t : ℕ) where
+  -- where no 59 that names table t and part p was done, none wrote the part
+  unwritten-if : isTable t ≡ true → (p : ℕ) → 1 ≤ p → (m : List ℕ) (xs : List Turn) → everWrote ear v t m xs p ≡ false
+      → Unwritten ear v (Part (tableIndex t) (p - 1)) m xs
+  unfolding everWrote ever
+  unwritten-if table p low m [] h k l w = absurd (let z : ⊥ = omega arith in z)
+  unwritten-if table p low m (x ∷ xs) h zero l w =
+      never (sym (neither (wrote ear v t p m x) _ h .0) ∙ part-wrote ear ok v t p table low m x .0 w)
+  unwritten-if table p low m (x ∷ xs) h (suc k) l w =
+      unwritten-if table p low (inTurn ear v m x .image) xs (neither (wrote ear v t p m x) _ h .1) k (omega arith) w
+
+  -- so where no 59 of a table was done, no answer by it changes
+  pub answers-stay-unnamed : (m : List ℕ) (xs : List Turn) → ((p : ℕ) → 1 ≤ p → p ≤ 11 → everWrote ear v t m xs p ≡ false)
+      → (x : ℕ) → quantityAt v (left ear v m xs) t x ≡ quantityAt v m t x
+  answers-stay-unnamed m xs h = answers-stay ear ok v m xs t (λ table p a b. unwritten-if table p a m xs (h p a b))
+
+  -- and of a fresh image 12 passes exactly once a 59 of each part was done
+  module _ (table : isTable t ≡ true) (a : ℕ) (xs : List Turn) where
+    abbrev written : ℕ → Bool
+    written = everWrote ear v t (fresh v a) xs
+
+    its-bit : (p : ℕ) → 1 ≤ p → bit (tableWord (left ear v (fresh v a) xs) (tableIndex t)) (p - 1) ≡ cond (written p) 1 0
+    its-bit p low = held-since ear ok v t p table low a xs
+
+    pub whole-since-is : whole (left ear v (fresh v a) xs) t ≡ true → (p : ℕ) → 1 ≤ p → p ≤ 11 → written p ≡ true
+    whole-since-is h p low high = go (written p) refl
+      where
+        go : (b : Bool) → written p ≡ b → b ≡ true
+        go true e = refl
+        go false e =
+            let one = whole-is (left ear v (fresh v a) xs) t h (p - 1) (omega arith) in
+            let none = rw e at (its-bit p low) in
+            absurd (omega arith)
+
+    pub whole-since-if : ((p : ℕ) → 1 ≤ p → p ≤ 11 → written p ≡ true) → whole (left ear v (fresh v a) xs) t ≡ true
+    whole-since-if h =
+        whole-if (left ear v (fresh v a) xs) t
+        (λ p l. let e : p + 1 - 1 ≡ p = omega arith in rw (e, h (p + 1) (omega arith) (omega arith)) at (its-bit (p + 1) (omega arith)))

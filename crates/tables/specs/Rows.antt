@@ -48,4 +48,4 @@ neverFall s = every (climbs (level s) (volume s)) 351
 pub record Ready (s : List ℕ) (x : ℕ) : Type 0 where
   pub long : length s ≡ 1408
   pub climbing : neverFall s ≡ true
-  pub reached : level s 0 ≤ x
+  pub least : level s 0 ≤ x

@@ -4,6 +4,13 @@ use image::Cell;
 use image::Named;
 use image::Version;
 use output::Cursor;
+use tables::Quantity;
+ghost use mathlib.Core.Path.{_≡_};
+ghost use mathlib.Core.Bool.{true};
+ghost use Prim.Native.Nat.{_≤_};
+ghost use Rattle.image.specs.Cell.{isTable};
+ghost use Rattle.tables.specs.Rows.{level};
+ghost use Rattle.tables.specs.Quantity.{tableBytes};
 
 pub(crate) fn put(image: &mut [u8], at: usize, bytes: &[u8]) {
     if image.len() < at {
@@ -84,6 +91,13 @@ pub(crate) fn held(image: &[u8], table: u32) {
     print::next(h.missing as usize);
 }
 
+// By the promise of the question alone: what it says of a table's number and of a level, neither of them cut, is put to use here.
+fn volume_at(m: &[u8], table: u32, asked: u32) -> Quantity
+    ensures { λ r. ⌜ (r .number ≡ 0 → (isTable table ≡ true) × (asked ≤ level (tableBytes (now (m .entry)) table) 351)) ⌝ }
+{
+    tables::quantity_at(m, table, asked)
+}
+
 // By a table whose number is one byte, or two with the high byte first.
 pub(crate) fn quantity(image: &[u8], level: u32, two: bool, a: u8, b: u8) {
     let table = if two {
@@ -91,7 +105,7 @@ pub(crate) fn quantity(image: &[u8], level: u32, two: bool, a: u8, b: u8) {
     } else {
         a as u32
     };
-    let q = tables::quantity_at(image, table, level);
+    let q = volume_at(image, table, level);
     print::start(q.number as usize);
     print::next(q.volume as usize);
 }

@@ -1,4 +1,5 @@
--- The held-parts question has the first three checks; past them the table's bytes lie in the image, and their rows decide. Assumes nothing.
+-- The held-parts question has the first two checks, and tells of the third; past them the table's bytes lie in the image, and their rows decide. Assumes
+-- nothing.
 use mathlib.Core.Path.{_≡_, sym, _∙_}
 use native.Mathlib.Omega.{arith}
 use borrow.Author.Needs.{needs}
@@ -9,7 +10,7 @@ use Rattle.image.specs.Held.{heldChecks}
 use Rattle.image.proofs.Indices.{index-below}
 use Rattle.image.proofs.UsableFacts.{facts}
 use Rattle.tables.proofs.Stands.{bytes-cut}
-use Rattle.tables.proofs.Checked.{refused-held, held-passes, part-missing, none-missing}
+use Rattle.tables.proofs.Checked.{held-passes, held-refused, part-missing, none-missing}
 use Rattle.tables.proofs.quantity.quantity_at.Statement.{statement}
 use Rattle.tables.proofs.quantity.quantity_at.Tie as tie
 
@@ -27,7 +28,7 @@ unanswered-requires : tie.Need-unanswered-requires
 unanswered-requires c κs = search needs
 
 returns : tie.Need-returns
-returns c = c .unanswered .ensures ∙ sym (refused-held current _ _ _ (c .before .before .before .held-parts .ensures) _ (c .before .if1 .taken))
+returns c = c .unanswered .ensures ∙ sym (held-refused current _ _ _ (c .before .before .before .held-parts .ensures) _ (c .before .if1 .taken))
 
 unanswered-requires-2 : tie.Need-unanswered-requires-2
 unanswered-requires-2 c κs = search needs
@@ -35,7 +36,7 @@ unanswered-requires-2 c κs = search needs
 returns-2 : tie.Need-returns-2
 returns-2 c =
     let d = c .before .before .before in
-    c .unanswered2 .ensures ∙ sym (part-missing current _ _ _ (d .before .before .held-parts .ensures) (d .if1 .left) _ (c .before .if2 .taken))
+    c .unanswered2 .ensures ∙ sym (part-missing current _ _ _ (d .before .before .held-parts .ensures) (d .if1 .left) _ (omega arith))
 
 table-index-requires : tie.Need-table-index-requires
 table-index-requires c κs = search needs
@@ -70,7 +71,7 @@ returns-3 c =
     let e = i .before in
     let d = e .before .before in
     let a = d .before .before .before .before .args in
-    let h = none-missing current (a .m .now) (a .table) _ (d .before .before .held-parts .ensures) (d .if1 .left) (a .level) (e .if2 .left) in
+    let h = none-missing current (a .m .now) (a .table) _ (d .before .before .held-parts .ensures) (d .if1 .left) (a .level) (omega arith) in
     c .quantity-in .ensures ∙ rw (bytes-cut _ _ _ (index i), h)
 
 pub quantity-at-spec : {M : Type 1} → statement M

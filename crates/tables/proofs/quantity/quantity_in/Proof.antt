@@ -56,7 +56,7 @@ cast-volume-at : tie.Need-cast-volume-at
 cast-volume-at c = search needs
 
 volume-at-requires : tie.Need-volume-at-requires
-volume-at-requires c κs = record { long = search needs; climbing = climbing (c .before .before .before .before); reached = omega arith }
+volume-at-requires c κs = record { long = search needs; climbing = climbing (c .before .before .before .before); least = omega arith }
 
 returns-4 : tie.Need-returns-4
 unfolding answered

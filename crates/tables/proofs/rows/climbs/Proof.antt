@@ -3,7 +3,7 @@ use mathlib.Core.Path.{sym}
 use native.Mathlib.Omega.{arith}
 use borrow.Author.Needs.{needs}
 use Rattle.tables.specs.Rows.{level, volume}
-use Rattle.tables.proofs.LastRow.{level-falls, level-stays}
+use Rattle.tables.proofs.LastRow.{level-falls, level-climbs}
 use Rattle.tables.proofs.rows.climbs.Statement.{statement}
 use Rattle.tables.proofs.rows.climbs.Tie as tie
 
@@ -31,7 +31,7 @@ volume-of-requires-2 c κs = search needs
 returns-2 : tie.Need-returns-2
 returns-2 c =
     let a = c .before .before .before .before .before .before .args in
-    rw (c .before .volume-of .ensures, c .volume-of2 .ensures) (sym (level-stays (level (a .s .now)) (volume (a .s .now)) (a .i) (omega arith)))
+    rw (c .before .volume-of .ensures, c .volume-of2 .ensures) (sym (level-climbs (level (a .s .now)) (volume (a .s .now)) (a .i) (omega arith)))
 
 pub climbs-spec : {M : Type 1} → statement M
 climbs-spec =

@@ -14,7 +14,7 @@ abbrev μ-loop : tie.MeasureT-loop
 μ-loop s asked low₀ high₀ low high = high - low
 
 loop-holds : tie.Need-loop-holds Inv-loop μ-loop
-loop-holds c = (omega arith, omega arith, c .before .pre .reached, λ j a b. absurd (let z : ⊥ = omega arith in z))
+loop-holds c = (omega arith, omega arith, c .before .pre .least, λ j a b. absurd (let z : ⊥ = omega arith in z))
 
 add-loop : tie.Need-add-loop Inv-loop μ-loop
 add-loop c = omega arith

@@ -1,4 +1,4 @@
--- Of the last row at or below the level its own volume is the answer; of any other the next row's level is above the one asked. Assumes nothing.
+-- Of row 352 its own volume is the answer; of any other row the next one's level is above the one asked. Assumes nothing.
 use mathlib.Core.Path.{sym, _∙_}
 use Prim.Native.Nat.{_+_}
 use native.Mathlib.Omega.{arith}
@@ -10,7 +10,7 @@ use Rattle.tables.proofs.rows.volume_at.Statement.{statement}
 use Rattle.tables.proofs.rows.volume_at.Tie as tie
 
 row : (c : tie.After-last-row) → Last (level (c .before .before .args .s .now)) 351 (c .before .before .args .asked) (c .last-row .result)
-row c = rw (c .last-row .ensures) (is-last _ 351 _ (c .before .before .pre .reached))
+row c = rw (c .last-row .ensures) (is-last _ 351 _ (c .before .before .pre .least))
 
 last-row-requires : tie.Need-last-row-requires
 last-row-requires c κs = search needs
