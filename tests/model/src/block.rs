@@ -1,13 +1,15 @@
 //! The rules of the block: frames, the image, and the fourteen commands.
 //!
 //! Five things are public: `serve`, `take_apart`, `build`, `fresh` and
-//! `held_parts`, and beside them the two moves of wish 8. Each takes every
-//! input. What is refused changes no buffer, so every check of a command stands
-//! before its first write.
+//! `held_parts`, and beside them the two moves of wish 8 and the volume at a
+//! level of wish 3. Each takes every input. What is refused changes no buffer,
+//! so every check of a command stands before its first write.
 
 mod moves;
+mod quantity;
 
 pub use self::moves::{move_down, move_up};
+pub use self::quantity::volume_at;
 
 use std::ops::{Range, RangeInclusive};
 
@@ -108,6 +110,9 @@ pub enum Refusal {
     BodyLength = 9,
     Item = 10,
     Value = 11,
+    Incomplete = 12,
+    Falling = 13,
+    Level = 14,
     Sealed = 16,
 }
 

@@ -281,6 +281,9 @@ fn call_of(record: Record) -> Option<(char, Vec<u8>)> {
         Record::Build(contents) => ('B', contents.to_vec()),
         Record::Fresh(address) => ('F', vec![address]),
         Record::Held(table) => ('H', table.to_be_bytes().to_vec()),
+        Record::Quantity { table, level } => {
+            ('A', [table.to_be_bytes(), level.to_be_bytes()].concat())
+        }
         Record::MoveUp => ('U', Vec::new()),
         Record::MoveDown => ('D', Vec::new()),
         _ => return None,
@@ -361,6 +364,7 @@ fn spell(record: Record) -> String {
         Record::TakeApart(bytes) => format!("T {}", printable(bytes)),
         Record::Build(bytes) => format!("B {}", printable(bytes)),
         Record::Held(table) => format!("H {table}"),
+        Record::Quantity { table, level } => format!("A {table} {level}"),
         Record::MoveUp => "U".to_string(),
         Record::MoveDown => "D".to_string(),
         _ => "that is broken".to_string(),

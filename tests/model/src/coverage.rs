@@ -5,6 +5,7 @@ mod listener;
 mod moves;
 mod order;
 pub mod panel;
+mod quantity;
 mod sealed;
 mod signatures;
 mod temperatures;
@@ -29,17 +30,18 @@ const OF_FRAMES: [Call; 4] = [
     ('T', "take apart", &[0, 2, 3, 4, 5, 6]),
 ];
 
-const OTHERS: [Call; 6] = [
+const OTHERS: [Call; 7] = [
     ('B', "build", &[0, 2, 3]),
     ('F', "fresh", &[0, 1, 11]),
     ('H', "held parts", &[0, 1, 10]),
+    ('A', "quantity", &[0, 1, 10, 12, 13, 14]),
     ('U', "move up", &[0, 1]),
     ('D', "move down", &[0, 1]),
     ('g', "off the line", &[0, 1, 2, 3, 4, 5, 6, 7, 8, 9, 10, 11]),
 ];
 
-/// The numbers that can come up; those between belong to wishes to come.
-const NUMBERS: [u8; 13] = [0, 1, 2, 3, 4, 5, 6, 7, 8, 9, 10, 11, 16];
+/// The numbers that can come up; the one between belongs to a wish to come.
+const NUMBERS: [u8; 16] = [0, 1, 2, 3, 4, 5, 6, 7, 8, 9, 10, 11, 12, 13, 14, 16];
 
 /// The frames served unsealed that are counted by command: by call, and
 /// whether a letter of theirs is small.
@@ -123,6 +125,22 @@ enum Thing {
     OffLine(u8, listener::Served),
     /// What is counted of the panel's program, by whether the call was drawn.
     Panel(bool, panel::Kind),
+    /// What is counted of questions for a volume, by whether they were drawn.
+    Quantity(bool, quantity::Kind),
+}
+
+/// How many came out as they should, of so many.
+#[derive(Clone, Copy, Default)]
+struct Right {
+    right: usize,
+    all: usize,
+}
+
+impl Right {
+    fn note(&mut self, right: bool) {
+        self.right += usize::from(right);
+        self.all += 1;
+    }
 }
 
 /// How often each thing that the test must reach was reached.
@@ -138,6 +156,8 @@ pub struct Coverage {
     listener: listener::Tally,
     /// Calls of the panel's program, if it is compared.
     panel: Option<panel::Tally>,
+    /// Questions for a volume as they come up.
+    quantity: quantity::Tally,
 }
 
 impl Coverage {
@@ -150,6 +170,7 @@ impl Coverage {
             order: order::Tally::default(),
             listener: listener::Tally::default(),
             panel: panel.then(panel::Tally::new),
+            quantity: quantity::Tally::default(),
         };
         for (seen, rule) in fixed::wanted() {
             coverage.fixed.entry(seen).or_default().0.push(rule);
@@ -179,6 +200,7 @@ impl Coverage {
         self.count_moves(came);
         self.count_order(came);
         self.count_listener(came);
+        self.count_quantity(came);
         let seen = (call, input.to_vec(), line.to_string());
         if let Some((_, count)) = self.fixed.get_mut(&seen) {
             *count += 1;
@@ -245,6 +267,7 @@ impl Coverage {
         missing.extend(self.missing_of_order());
         missing.extend(self.missing_of_listener());
         missing.extend(self.missing_of_panel());
+        missing.extend(self.missing_of_quantity());
         for ((_, _, line), (rules, count)) in &self.fixed {
             if *count < rules.len() {
                 missing.push(format!("{} with the line {line}", rules.join("; ")));
@@ -267,6 +290,7 @@ impl Coverage {
         self.print_order(out)?;
         self.print_listener(out)?;
         self.print_panel(out)?;
+        self.print_quantity(out)?;
         let fixed = self.fixed.values();
         let wanted: usize = fixed.clone().map(|(rules, _)| rules.len()).sum();
         let came: usize = fixed.map(|(rules, count)| rules.len().min(*count)).sum();
@@ -429,6 +453,7 @@ fn wanted() -> Vec<(Thing, String)> {
     wanted.extend(moves::wanted());
     wanted.extend(order::wanted());
     wanted.extend(listener::wanted());
+    wanted.extend(quantity::wanted());
     wanted
 }
 

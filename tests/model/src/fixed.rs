@@ -9,6 +9,7 @@ pub mod listener;
 mod moves;
 mod order;
 pub mod panel;
+mod quantity;
 mod sealed;
 mod signatures;
 mod small_letters;
@@ -36,7 +37,8 @@ pub struct Step {
     /// The letter of its record in a script of the probe or of the panel's program.
     pub letter: char,
     /// What it is given: a frame, and before it the switch if that is a number,
-    /// contents, an address or a table's number; of a move nothing.
+    /// contents, an address or a table's number, and behind that a level if a
+    /// volume is asked for; of a move nothing.
     pub input: Vec<u8>,
     /// What was changed behind the block's back right before it.
     pub changed: Vec<Change>,
@@ -46,6 +48,8 @@ pub struct Step {
     moved: Option<Moved>,
     /// Of the held-parts question: how many, and the lowest missing one.
     held: [u8; 2],
+    /// Of the question for a volume at a level: that volume.
+    volume: u16,
 }
 
 /// What a move leaves in the second buffer, beside what it keeps.
@@ -66,6 +70,7 @@ impl Step {
             stored: Vec::new(),
             moved: None,
             held: [0, 0],
+            volume: 0,
         }
     }
 
@@ -122,6 +127,21 @@ impl Step {
     fn holds(mut self, parts: u8, missing: u8) -> Self {
         self.held = [parts, missing];
         self
+    }
+
+    /// The volume at the level that it asks for.
+    fn answers(mut self, volume: u16) -> Self {
+        self.volume = volume;
+        self
+    }
+
+    /// The line of a question. It shows no buffer, and a digest takes long.
+    fn answer_line(&self) -> String {
+        let (letter, number, [parts, missing]) = (self.letter, self.number, self.held);
+        match letter {
+            'A' => format!("A {number} {}", self.volume),
+            _ => format!("{letter} {number} {parts} {missing}"),
+        }
     }
 }
 
@@ -224,21 +244,27 @@ impl Session {
         let mut lines = Vec::new();
         for step in &self.steps {
             buffers.take(step);
-            let mut output = [FILL; OUTPUT_ROOM];
-            output[..step.wrote.len()].copy_from_slice(&step.wrote);
-            let (letter, number, length) = (step.letter, step.number, step.wrote.len());
-            let [parts, missing] = step.held;
-            let output = digest(&output[..self.output]);
-            let image = buffers.image();
-            lines.push(match letter {
-                'S' | 'K' | 'Z' => format!("{letter} {number} {length} {image} {output}"),
-                'F' => format!("F {number} {image}"),
-                'U' | 'D' => format!("{letter} {number} {image} {}", buffers.second()),
-                'H' | 'J' => format!("{letter} {number} {parts} {missing}"),
-                _ => format!("{letter} {number} {length} {output}"),
+            lines.push(match step.letter {
+                'H' | 'J' | 'A' => step.answer_line(),
+                _ => self.line_of(step, &mut buffers),
             });
         }
         lines
+    }
+
+    /// The line of a step that shows a buffer.
+    fn line_of(&self, step: &Step, buffers: &mut Buffers) -> String {
+        let mut output = [FILL; OUTPUT_ROOM];
+        output[..step.wrote.len()].copy_from_slice(&step.wrote);
+        let (letter, number, length) = (step.letter, step.number, step.wrote.len());
+        let output = digest(&output[..self.output]);
+        let image = buffers.image();
+        match letter {
+            'S' | 'K' | 'Z' => format!("{letter} {number} {length} {image} {output}"),
+            'F' => format!("F {number} {image}"),
+            'U' | 'D' => format!("{letter} {number} {image} {}", buffers.second()),
+            _ => format!("{letter} {number} {length} {output}"),
+        }
     }
 }
 
@@ -331,6 +357,7 @@ fn all_sessions() -> Vec<Session> {
     sessions.extend(signatures::sessions());
     sessions.extend(moves::sessions());
     sessions.extend(order::sessions());
+    sessions.extend(quantity::sessions());
     sessions
 }
 

@@ -29,9 +29,11 @@ mod panel;
 mod panel_scripts;
 mod probe;
 mod probe_scripts;
+mod quantity;
 #[cfg(test)]
 mod rows;
 mod streams;
+mod tables;
 
 use std::env;
 use std::io::{self, Read, Write};
@@ -85,7 +87,7 @@ fn pass(limit: usize, lines: fn(&[u8]) -> Vec<String>) -> io::Result<bool> {
 
 fn options(mut words: impl Iterator<Item = String>) -> Result<compare::Options, String> {
     let (mut desk, mut probe, mut panel) = (None, None, None);
-    let (mut streams, mut seed, mut failures) = (406, 2012, usize::MAX);
+    let (mut streams, mut seed, mut failures) = (441, 2012, usize::MAX);
     let mut prefix = Vec::new();
     let mut panel_prefix = None;
     while let Some(word) = words.next() {

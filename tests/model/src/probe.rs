@@ -1,7 +1,7 @@
 //! The probe program: a script of calls on buffers of any length, so that
 //! what the desk cannot show (numbers 1 and 2, images, moves from one version
-//! to the other, untouched output, what a listener hands out) is compared as
-//! well.
+//! to the other, untouched output, what a listener hands out, the volume at a
+//! level) is compared as well.
 
 use std::mem::swap;
 
@@ -33,6 +33,11 @@ pub enum Record<'a> {
     TakeApart(&'a [u8]),
     Build(&'a [u8]),
     Held(u32),
+    /// The volume of a table at a level.
+    Quantity {
+        table: u32,
+        level: u32,
+    },
     MoveUp,
     MoveDown,
     /// The flag and the count of the listener's record.
@@ -136,6 +141,10 @@ impl<'a> Records<'a> {
             b'T' => Record::TakeApart(self.counted()?),
             b'B' => Record::Build(self.counted()?),
             b'H' => Record::Held(self.number(4)? as u32),
+            b'A' => Record::Quantity {
+                table: self.number(4)? as u32,
+                level: self.number(4)? as u32,
+            },
             b'U' => Record::MoveUp,
             b'D' => Record::MoveDown,
             b'R' => Record::Gathering {
@@ -296,6 +305,10 @@ impl Probe {
                 format!("B {answer} {}", digest(output))
             }
             Record::Held(table) => self.held('H', u64::from(table)),
+            Record::Quantity { table, level } => {
+                let answer = block::volume_at(image, table, level);
+                format!("A {} {}", number(&answer), answer.unwrap_or(0))
+            }
             Record::MoveUp => {
                 let number = number(&block::move_up(image, second));
                 format!("U {number} {} {}", digest(image), digest(second))

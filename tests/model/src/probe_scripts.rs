@@ -5,6 +5,7 @@
 mod listener;
 mod moves;
 mod order;
+mod quantity;
 
 use crate::fixed::listener::{hearings, Hearing};
 use crate::fixed::{self, Change, Session, FILL};
@@ -24,7 +25,7 @@ const TABLES: usize = 1225;
 
 pub type Case = (&'static str, fn(&mut Rng) -> Script);
 
-const CASES: [Case; 45] = [
+const CASES: [Case; 54] = [
     ("empty", |_| Script::default()),
     // These stand early, so that faults planted in them are found soon.
     ("moves", moves::done),
@@ -41,6 +42,7 @@ const CASES: [Case; 45] = [
     ("listener, served in noise without 3Ah", listener::served),
     ("listener, served in any noise", listener::served_in_any),
     ("listener, among other calls", listener::among_others),
+    ("quantity, first questions", quantity::first_questions),
     ("rows at other addresses", other_addresses),
     ("fresh images", fresh_images),
     ("image lengths", image_lengths),
@@ -71,6 +73,14 @@ const CASES: [Case; 45] = [
     ("lists in three orders", order::unsealed),
     ("longer lists in two orders", order::longer),
     ("lists without a clash", order::apart),
+    ("quantity, every row", quantity::every_row),
+    ("quantity, a fall at every step", quantity::every_fall),
+    ("quantity, parts missing", quantity::parts_missing),
+    ("quantity, all tables", quantity::every_table),
+    ("quantity, extremes", quantity::extremes),
+    ("quantity, images not usable", quantity::unusable),
+    ("quantity, among other calls", quantity::among_others),
+    ("quantity, every row once more", quantity::every_row),
 ];
 
 /// A script under construction.
@@ -215,7 +225,7 @@ pub fn fixed_calls(session: &Session) -> Vec<u8> {
         }
         script.output(session.output, FILL);
         match step.letter {
-            'F' | 'H' | 'J' | 'U' | 'D' => script.given(step.letter as u8, &step.input),
+            'F' | 'H' | 'J' | 'U' | 'D' | 'A' => script.given(step.letter as u8, &step.input),
             'Z' => {
                 let (number, frame) = step.input.split_at(8);
                 script.given(b'Z', number).length_and(frame)
@@ -849,7 +859,7 @@ fn records_past_end(_: &mut Rng) -> Script {
 }
 
 /// Each kind of record that goes on behind its letter.
-const WHOLE: [&[u8]; 15] = [
+const WHOLE: [&[u8]; 16] = [
     b"L\x00\x5D\x09",
     b"P\x00\x00\x06\x01",
     b"W\x01",
@@ -860,6 +870,7 @@ const WHOLE: [&[u8]; 15] = [
     b"T\x00\x09:0132CD\r\n",
     b"B\x00\x02\x01\x32",
     b"H\x00\x00\x00\x01",
+    b"A\x00\x00\x00\x01\x00\x00\x00\x00",
     b"R\x01\x00\x00\x00\x00\x00\x00\x00\x00",
     b"Y\x01",
     b"Q\x00\x00\x01",
@@ -869,13 +880,14 @@ const WHOLE: [&[u8]; 15] = [
 ];
 
 /// Letters that begin no record.
-const UNKNOWN: [&[u8]; 14] = [
+const UNKNOWN: [&[u8]; 15] = [
     b"?",
     b"s\x00\x00",
     b"k\x00\x00",
     b"u",
     b"d",
     b"x",
+    b"a\x00\x00\x00\x01\x00\x00\x00\x00",
     b"w\x00",
     b"n\x00\x00",
     b"v\x00\x00",
@@ -923,6 +935,9 @@ fn by_chance(rng: &mut Rng) -> Script {
         }
         if rng.percent(2) {
             moves::about(&mut script, rng, address);
+        }
+        if rng.percent(2) {
+            quantity::about(&mut script, rng, address);
         }
         match rng.below(10) {
             0 => script.output(rng.pick(&[0, 131, 132, 268, 269, 270, 400]), rng.byte()),

@@ -4,6 +4,7 @@ mod listener;
 mod moves;
 mod order;
 mod panel;
+mod quantity;
 mod signatures;
 
 use crate::block::{build, fresh, held_parts, serve, take_apart, Refusal, Switch, IMAGE_BYTES};

@@ -13,26 +13,12 @@ mod wrong;
 use std::io::{self, Write};
 
 use self::kinds::{Ear, ROWS};
-use super::{Came, Coverage, Thing};
+use super::{Came, Coverage, Right, Thing};
 use crate::listener::Listener;
 use crate::probe::Probe;
 
 pub use self::kinds::Kind;
 pub use self::served::Served;
-
-/// How many came out as they should, of so many.
-#[derive(Clone, Copy, Default)]
-struct Right {
-    right: usize,
-    all: usize,
-}
-
-impl Right {
-    fn note(&mut self, right: bool) {
-        self.right += usize::from(right);
-        self.all += 1;
-    }
-}
 
 /// What a run has heard so far.
 #[derive(Default)]

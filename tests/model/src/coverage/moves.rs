@@ -169,7 +169,7 @@ impl<'a> Call<'a> {
 
 /// What makes a source not usable. A place that it is too short for is not
 /// counted against it once more.
-fn faults_of(source: &[u8], version: u8, length: usize) -> Vec<Fault> {
+pub(super) fn faults_of(source: &[u8], version: u8, length: usize) -> Vec<Fault> {
     let at = |place: usize| source.get(place).copied();
     let is = |place, byte| at(place).is_none_or(|found| found == byte);
     let mut faults = Vec::new();
