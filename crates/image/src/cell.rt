@@ -5,7 +5,7 @@ ghost use Prim.Native.Nat.{_+_, _*_, _≤_};
 ghost use Rattle.image.specs.Cell.{offset, size, constantsNamed, errorsNamed, isTable, tableIndex, tableNamed, partNamed, itemAt};
 ghost use Rattle.image.specs.Words.{signatureWord};
 
-// What a command works on: one of the 195 cells, or all eleven parts of a table at once, of which only its signature speaks. Inside, numbers
+// What a command works on: one of the 195 cells, or all eleven parts of a table at once, of which its signature and a volume speak. Inside, numbers
 // count from 0: channels 0..7, error tables 0..7, tables 0..15 in image order, parts 0..10.
 pub enum Cell {
     Mask,

@@ -1,7 +1,8 @@
 -- A volume between those of two rows: rounded down, never less than the lower, never more than the upper, and never falling. Assumes nothing.
 use mathlib.Core.Path.{_≡_}
 use Prim.Native.Nat.{ℕ, _+_, _-_, _*_, _/_, _≤_, _<_}
-use native.Mathlib.Nat.{mul-le-mul-left, mul-le-mul-right, div-le-of-le-mul, le-div-iff-mul-le, div-mul-le-self, lt-div-mul-add, add-mul, one-mul, zero-div, mul-zero, le-trans}
+use native.Mathlib.Nat.{mul-le-mul-left, mul-le-mul-right, mul-zero, one-mul, add-mul, le-trans}
+use native.Mathlib.Nat.{zero-div, div-le-of-le-mul, le-div-iff-mul-le, div-mul-le-self, lt-div-mul-add}
 use native.Mathlib.Decide.{decLt}
 use native.Mathlib.Omega.{arith}
 use Rattle.tables.specs.Rows.{between}

@@ -1,4 +1,5 @@
--- What the checks of a question come to, as the code goes through them: by the held-parts question, and by the rows. Assumes nothing.
+-- What the checks of a question come to: the five in their order, and each for its own reason; then as the code goes through them, by the held-parts
+-- question and by the rows. Assumes nothing.
 use mathlib.Core.Path.{_≡_, refl, sym, ap, _∙_}
 use mathlib.Core.Logic.{_≢_}
 use mathlib.Core.List.{List, [], _∷_, map}

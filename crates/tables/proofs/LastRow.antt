@@ -24,7 +24,9 @@ pub record Last (level : ℕ → ℕ) (n x i : ℕ) : Type 0 where
 pub last-is : (level : ℕ → ℕ) (n x i : ℕ) → Last level n x i → lastRow level x n ≡ i
 unfolding lastRow
 last-is level zero x i h = omega (arith, h .most)
-last-is level (suc n) x i h = go (ℕ-discrete i (suc n)) (λ l. last-is level n x i (record { most = l; below = h .below; above = λ j p q. h .above j p (omega arith) }))
+last-is level (suc n) x i h =
+    go (ℕ-discrete i (suc n))
+    (λ l. last-is level n x i (record { most = l; below = h .below; above = λ j p q. h .above j p (omega arith) }))
   where
     go : Dec (i ≡ suc n) → (i ≤ n → lastRow level x n ≡ i) → lastRow level x (suc n) ≡ i
     go (yes e) ih = let l : level (suc n) ≤ x = rw (← e) (h .below) in rw (le-leb (level (suc n)) x l) (sym e)

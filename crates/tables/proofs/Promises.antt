@@ -108,9 +108,12 @@ module _ (v : Version) (m : List ℕ) (t : ℕ) where
 
   -- ---- the answer
 
+  pub answered-as : (x : ℕ) → quantityAt v m t x .number ≡ 0 → quantityAt v m t x ≡ answered s x
+  answered-as x z = let (a, l, h) = answered-is x z in answered-if a x l h
+
   volume-is : (x : ℕ) → quantityAt v m t x .number ≡ 0 → quantityAt v m t x .volume ≡ volumeAt (level s) (volume s) 351 x
   unfolding answered
-  volume-is x z = let (a, l, h) = answered-is x z in ap (λ (q : Quantity). q .volume) (answered-if a x l h)
+  volume-is x z = ap (λ (q : Quantity). q .volume) (answered-as x z)
 
   climbing : (x : ℕ) → quantityAt v m t x .number ≡ 0 → every (climbs (level s) (volume s)) 351 ≡ true
   unfolding neverFall

@@ -6,11 +6,10 @@ use image::Version;
 use output::Cursor;
 use tables::Quantity;
 ghost use mathlib.Core.Path.{_≡_};
-ghost use mathlib.Core.Bool.{true};
-ghost use Prim.Native.Nat.{_≤_};
-ghost use Rattle.image.specs.Cell.{isTable};
-ghost use Rattle.tables.specs.Rows.{level};
-ghost use Rattle.tables.specs.Quantity.{tableBytes};
+ghost use mathlib.Core.Logic.{_≢_};
+ghost use Rattle.laws.specs.Checks.{firstFailing};
+ghost use Rattle.image.specs.Version.{current};
+ghost use Rattle.tables.specs.Quantity.{tableBytes, quantityChecks, answered};
 
 pub(crate) fn put(image: &mut [u8], at: usize, bytes: &[u8]) {
     if image.len() < at {
@@ -91,9 +90,11 @@ pub(crate) fn held(image: &[u8], table: u32) {
     print::next(h.missing as usize);
 }
 
-// By the promise of the question alone: what it says of a table's number and of a level, neither of them cut, is put to use here.
+// By the promise of the question alone: what it says of this table's number and of this very level, neither of them cut, is put to use here.
 fn volume_at(m: &[u8], table: u32, asked: u32) -> Quantity
-    ensures { λ r. ⌜ (r .number ≡ 0 → (isTable table ≡ true) × (asked ≤ level (tableBytes (now (m .entry)) table) 351)) ⌝ }
+    ensures { λ r. ⌜ r .number ≡ firstFailing (quantityChecks current (now (m .entry)) table asked) ⌝ }
+    ensures { λ r. ⌜ (r .number ≡ 0 → r ≡ answered (tableBytes (now (m .entry)) table) asked) ⌝ }
+    ensures { λ r. ⌜ (r .number ≢ 0 → r .volume ≡ 0) ⌝ }
 {
     tables::quantity_at(m, table, asked)
 }

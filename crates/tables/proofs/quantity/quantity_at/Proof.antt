@@ -15,7 +15,8 @@ use Rattle.tables.proofs.quantity.quantity_at.Statement.{statement}
 use Rattle.tables.proofs.quantity.quantity_at.Tie as tie
 
 -- both of its checks passed, so that the index is a table's
-passes : (c : tie.After-table-index) → let a = c .before .before .before .before .before .before .before .args in AllPass (heldChecks current (a .m .now) (a .table))
+passes : (c : tie.After-table-index)
+    → let a = c .before .before .before .before .before .before .before .args in AllPass (heldChecks current (a .m .now) (a .table))
 passes c = let d = c .before .before .before in held-passes current _ _ _ (d .before .before .held-parts .ensures) (d .if1 .left)
 
 index : (c : tie.After-table-index) → c .table-index .result ≡ tableIndex (c .before .before .before .before .before .before .before .args .table)
