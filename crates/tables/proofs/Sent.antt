@@ -2,7 +2,7 @@
 -- the switch turned between them or not, on any image. Assumes nothing.
 use mathlib.Core.Path.{_≡_, refl, sym, ap, _∙_}
 use mathlib.Core.List.{List, [], _∷_}
-use mathlib.Core.Bool.{Bool, true, false, cond, _||_}
+use mathlib.Core.Bool.{Bool, true, false, cond, or-true}
 use Prim.Native.Nat.{ℕ, zero, suc, _+_, _-_, _*_, _/_, _%_, _≤_, _<_}
 use native.Mathlib.Omega.{arith}
 use lib.ListN.{length, getD, drop}
@@ -13,6 +13,7 @@ use Rattle.laws.specs.Bits.{bit}
 use Rattle.laws.specs.Checks.{judged}
 use Rattle.laws.proofs.Tests.{never}
 use Rattle.laws.proofs.Bytes.{slice-same}
+use Rattle.reorder.specs.Last.{WroteAt}
 use Rattle.frame.specs.Apart.{contentsOf}
 use Rattle.image.specs.declared.cell.Cell.the-variants.{Part}
 use Rattle.image.specs.declared.version.Version.{Version}
@@ -25,11 +26,12 @@ use Rattle.image.proofs.Indices.{index-below}
 use Rattle.image.proofs.UsableFacts.{facts}
 use Rattle.rules.specs.declared.switch.Switch.{Switch}
 use Rattle.izk.specs.Heard.{Hearing, Lawful}
-use Rattle.izk.specs.Since.{Turn, inTurn, left, ever, wrote, everWrote}
-use Rattle.izk.proofs.Turns.{Went, refused, accepted, went, by-turns, left-usable}
+use Rattle.izk.specs.Since.{Turn, inTurn, turned, left, ever, everWrote}
+use Rattle.izk.proofs.Serving.{unusable-is-1}
+use Rattle.izk.proofs.Turns.{by-turns, left-usable}
 use Rattle.izk.proofs.Changes.{Kept}
 use Rattle.izk.proofs.HeldSince.{held-since}
-use Rattle.repeats.specs.Written.{noTurn, Unwritten, LastWrite}
+use Rattle.repeats.specs.Written.{Wrote, noTurn, noAnswer, Unwritten, LastWrite}
 use Rattle.repeats.proofs.Last.{unwritten-keeps, last-write-holds}
 use Rattle.repeats.proofs.Numbers.{holds-part, kept-each, part-wrote}
 use Rattle.tables.specs.Rows.{level, volume}
@@ -111,13 +113,9 @@ module _ (ear : Switch → Hearing) (ok : (s : Switch) → Lawful (ear s)) (v : 
   unusable-stays : usable v m ≡ false → after ≡ m
   unusable-stays = by-turns ear ok v (λ m xs m′. usable v m ≡ false → m′ ≡ m) (λ m h. refl) one m xs
     where
-      same : (m : List ℕ) (x : Turn) → usable v m ≡ false → Went ear ok v m x → inTurn ear v m x .image ≡ m
-      same m x h (refused n l e) = ap (λ b. b .image) e
-      same m x h (accepted u e a d i j) = absurd (never (sym h ∙ u))
-
       one : (m : List ℕ) (x : Turn) (xs : List Turn) (m′ : List ℕ) → (usable v (inTurn ear v m x .image) ≡ false → m′ ≡ inTurn ear v m x .image)
           → usable v m ≡ false → m′ ≡ m
-      one m x xs m′ ih h = let e = same m x h (went ear ok v m x) in ih (rw e h) ∙ e
+      one m x xs m′ ih h = let e = ap (λ b. b .image) (unusable-is-1 (ear (x .switch)) v (x .frame) m (x .out) h) in ih (rw e h) ∙ e
 
   module _ (none : isTable t ≡ true → (p : ℕ) → 1 ≤ p → p ≤ 11 → Unwritten ear v (Part (tableIndex t) (p - 1)) m xs) where
     module _ (u : usable v m ≡ true) (table : isTable t ≡ true) where
@@ -163,20 +161,19 @@ module _ (ear : Switch → Hearing) (ok : (s : Switch) → Lawful (ear s)) (v : 
 
 -- ---- by the frames' own bytes and the numbers that they were given
 
-neither : (a b : Bool) → a || b ≡ false → (a ≡ false) × (b ≡ false)
-neither true b h = absurd (never (sym h))
-neither false b h = (refl, h)
-
 module _ (ear : Switch → Hearing) (ok : (s : Switch) → Lawful (ear s)) (v : Version) (t : ℕ) where
-  -- where no 59 that names table t and part p was done, none wrote the part
-  unwritten-if : isTable t ≡ true → (p : ℕ) → 1 ≤ p → (m : List ℕ) (xs : List Turn) → everWrote ear v t m xs p ≡ false
-      → Unwritten ear v (Part (tableIndex t) (p - 1)) m xs
-  unfolding everWrote ever
-  unwritten-if table p low m [] h k l w = absurd (let z : ⊥ = omega arith in z)
-  unwritten-if table p low m (x ∷ xs) h zero l w =
-      never (sym (neither (wrote ear v t p m x) _ h .0) ∙ part-wrote ear ok v t p table low m x .0 w)
-  unwritten-if table p low m (x ∷ xs) h (suc k) l w =
-      unwritten-if table p low (inTurn ear v m x .image) xs (neither (wrote ear v t p m x) _ h .1) k (omega arith) w
+  module _ (table : isTable t ≡ true) (p : ℕ) (low : 1 ≤ p) where
+    -- a turn that wrote part p of table t is a 59 that names them
+    wrote-named : (m : List ℕ) (xs : List Turn) (k : ℕ) → k < length xs
+        → WroteAt (turned ear v) (λ x a. Wrote (Part (tableIndex t) (p - 1)) (x .frame) (a .number)) noTurn noAnswer m xs k
+        → everWrote ear v t m xs p ≡ true
+    unfolding everWrote ever
+    wrote-named m [] k l w = absurd (let z : ⊥ = omega arith in z)
+    wrote-named m (x ∷ xs) zero l w = rw (part-wrote ear ok v t p table low m x .0 w)
+    wrote-named m (x ∷ xs) (suc k) l w = rw (wrote-named (inTurn ear v m x .image) xs k (omega arith) w, or-true)
+
+    unwritten-if : (m : List ℕ) (xs : List Turn) → everWrote ear v t m xs p ≡ false → Unwritten ear v (Part (tableIndex t) (p - 1)) m xs
+    unwritten-if m xs h k l w = never (sym h ∙ wrote-named m xs k l w)
 
   -- so where no 59 of a table was done, no answer by it changes
   pub answers-stay-unnamed : (m : List ℕ) (xs : List Turn) → ((p : ℕ) → 1 ≤ p → p ≤ 11 → everWrote ear v t m xs p ≡ false)
