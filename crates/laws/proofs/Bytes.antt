@@ -198,6 +198,18 @@ slice-both m m′ a n r r′ h =
     ext-getD 0 _ _ (length-slice a n m r ∙ sym (length-slice a n m′ r′))
     (λ k l. let lt : k < n = omega (arith, length-slice a n m r) in simp (getD-take, getD-drop) (h (a + k) (omega arith, omega arith)))
 
+-- a slice of a slice
+pub slice-slice : (b k a n : ℕ) (m : List ℕ) → a + n ≤ k → slice a n (slice b k m) ≡ slice (b + a) n m
+unfolding slice
+slice-slice b k a n m h = ext-getD 0 _ _ (simp (length-take, length-drop) (omega arith)) each
+  where
+    each : (i : ℕ) → i < length (take n (drop a (take k (drop b m)))) → getD (take n (drop a (take k (drop b m)))) i 0 ≡ getD (take n (drop (b + a) m)) i 0
+    each i l =
+        let lt : i < n = omega (arith, length-take n (drop a (take k (drop b m)))) in
+        let in-k : a + i < k = omega arith in
+        let e : b + (a + i) ≡ b + a + i = omega arith in
+        rw (getD-take, getD-take, getD-drop, getD-drop, getD-take, getD-drop, e)
+
 module _ (g : ℕ → ℕ) where
   take-map : (n : ℕ) (l : List ℕ) → take n (map g l) ≡ map g (take n l)
   take-map zero l = refl

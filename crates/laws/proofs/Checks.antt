@@ -7,7 +7,7 @@ use Prim.Native.Nat.{ℕ, _≤_, _<_}
 use native.Mathlib.Omega.{arith}
 use lib.Dec.{ltb}
 use borrow.Author.Tests.{ltb-true}
-use Rattle.laws.specs.Checks.{Check, judged, firstFailing, AllPass, First, Gives, none, one, risingFrom}
+use Rattle.laws.specs.Checks.{Check, judged, firstFailing, AllPass, First, Gives, none, one, risingFrom, all}
 use Rattle.laws.proofs.Tests.{and-both, never}
 
 -- what is done with the answer may be done within
@@ -27,6 +27,17 @@ pub judged-passed : {A : Type 0} (refuse : ℕ → A) (cs : List Check) (after :
 unfolding judged
 judged-passed refuse [] after p = refl
 judged-passed refuse (c ∷ cs) after p = rw (p .0) (judged-passed refuse cs after (p .1))
+
+-- by the test of each
+pub all-pass-is : (cs : List Check) → all (λ c. c .passes) cs ≡ true → AllPass cs
+unfolding all
+all-pass-is [] h = tt
+all-pass-is (c ∷ cs) h = let p = and-both (c .passes) _ h in (p .0, all-pass-is cs (p .1))
+
+pub all-pass-if : (cs : List Check) → AllPass cs → all (λ c. c .passes) cs ≡ true
+unfolding all
+all-pass-if [] p = refl
+all-pass-if (c ∷ cs) p = rw (p .0) (all-pass-if cs (p .1))
 
 -- either all pass, or one check is the first that fails and its number answers every reading of the list
 pub data Judged (cs : List Check) : Type 1 where

@@ -1,7 +1,7 @@
 -- Checks, in document 01's sense: each has a refusal number, and the first that fails decides. Assumes nothing.
 use mathlib.Core.Path.{_≡_}
 use mathlib.Core.List.{List, [], _∷_, _++_}
-use mathlib.Core.Bool.{Bool, true, false, cond, _&&_, _||_}
+use mathlib.Core.Bool.{Bool, true, false, cond, not, _&&_, _||_}
 use Prim.Native.Nat.{ℕ, zero, suc}
 use lib.Dec.{leb, ltb, eqb}
 
@@ -55,6 +55,11 @@ unfoldable pub every : (ℕ → Bool) → ℕ → Bool
 every t zero = true
 every t (suc n) = t n && every t n
 
+-- a test at some number below n
+unfoldable pub some : (ℕ → Bool) → ℕ → Bool
+some t zero = false
+some t (suc n) = t n || some t n
+
 -- a test of each element
 unfoldable pub all : {A : Type 0} → (A → Bool) → List A → Bool
 all t [] = true
@@ -64,6 +69,11 @@ all t (x ∷ l) = t x && all t l
 unfoldable pub among : ℕ → List ℕ → Bool
 among k [] = false
 among k (n ∷ ns) = eqb k n || among k ns
+
+-- no number of a list is there twice
+unfoldable pub distinct : List ℕ → Bool
+distinct [] = true
+distinct (n ∷ ns) = not (among n ns) && distinct ns
 
 -- two lists have the same numbers
 unfoldable pub same : List ℕ → List ℕ → Bool

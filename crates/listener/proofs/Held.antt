@@ -7,12 +7,13 @@ use mathlib.Core.Option.{Option, some, none, Option·some-injective, Option·non
 use Prim.Native.Nat.{ℕ, _+_, _<_}
 use lib.ListN.{length, getD, take}
 use Rattle.laws.specs.Checks.{among}
+use Rattle.laws.proofs.Tests.{neither}
 use Rattle.reorder.specs.Reorder.{outcomes}
 use Rattle.listener.specs.declared.Listener.{Listener}
 use Rattle.listener.specs.declared.Listened.{Listened}
 use Rattle.listener.specs.Listening.{listened}
 use Rattle.listener.specs.Handing.{Waits, gathered, handed, takes}
-use Rattle.listener.proofs.Shapes.{neither, among-append, not-first}
+use Rattle.listener.proofs.Shapes.{among-append, not-first}
 use Rattle.listener.proofs.Gathering.{Holds, holds-waits, waits-or-holds, After, ends, goes-on, drops, after, waits-stays}
 use Rattle.listener.proofs.Along.{told-at}
 

@@ -12,15 +12,10 @@ use lib.Seq.{drop-append-le, split-at}
 use lib.Dec.{eqb}
 use borrow.Author.Tests.{le-leb, lt-leb, eq-eqb, ne-eqb, eqb-true, eqb-false, not-true}
 use Rattle.laws.specs.Checks.{among, every}
-use Rattle.laws.proofs.Tests.{never, and-both, every-fails, every-at, every-same, every-next}
+use Rattle.laws.proofs.Tests.{never, and-both, neither, every-fails, every-at, every-same, every-next}
 use Rattle.listener.specs.Handing.{endAt, wellFormed, since}
 
 -- ---- among the bytes of a line
-
--- an `or` that fails
-pub neither : (a b : Bool) → (a || b) ≡ false → (a ≡ false) × (b ≡ false)
-neither true b e = absurd (never (sym e))
-neither false b e = (refl, e)
 
 module _ (k : ℕ) where
   pub among-append : (a b : List ℕ) → among k (a ++ b) ≡ (among k a || among k b)

@@ -73,7 +73,7 @@ module _ (level volume : ℕ → ℕ) where
   unfolding climbs
   climbs-is i h = let p = and-both _ _ h in (leb-true _ _ (p .0), leb-true _ _ (p .1))
 
-  climbs-if : (i : ℕ) → level i ≤ level (i + 1) → volume i ≤ volume (i + 1) → climbs level volume i ≡ true
+  pub climbs-if : (i : ℕ) → level i ≤ level (i + 1) → volume i ≤ volume (i + 1) → climbs level volume i ≡ true
   unfolding climbs
   climbs-if i a b = rw (le-leb _ _ a, le-leb _ _ b)
 

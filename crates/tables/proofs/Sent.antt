@@ -12,7 +12,7 @@ use Rattle.laws.specs.Bytes.{slice, wordAt}
 use Rattle.laws.specs.Bits.{bit}
 use Rattle.laws.specs.Checks.{judged}
 use Rattle.laws.proofs.Tests.{never}
-use Rattle.laws.proofs.Bytes.{slice-same}
+use Rattle.laws.proofs.Bytes.{slice-same, slice-slice}
 use Rattle.reorder.specs.Last.{WroteAt}
 use Rattle.frame.specs.Apart.{contentsOf}
 use Rattle.image.specs.declared.cell.Cell.the-variants.{Part}
@@ -34,46 +34,45 @@ use Rattle.izk.proofs.HeldSince.{held-since}
 use Rattle.repeats.specs.Written.{Wrote, noTurn, noAnswer, Unwritten, LastWrite}
 use Rattle.repeats.proofs.Last.{unwritten-keeps, last-write-holds}
 use Rattle.repeats.proofs.Numbers.{holds-part, kept-each, part-wrote}
-use Rattle.tables.specs.Rows.{level, volume}
+use Rattle.tables.specs.Rows.{level, volume, sentLevel, sentVolume}
 use Rattle.tables.specs.Quantity.{tableBytes, whole, quantityAt}
 use Rattle.tables.proofs.Stands.{slice-word}
 use Rattle.tables.proofs.Promises.{whole-is, whole-if}
 
 -- ---- the rows of a part
 
--- word i of a part, its table's bytes being read from the part's 128 on
-part-word : (m : List ℕ) (t p i : ℕ) → p < 11 → i + 1 < 128
-    → wordAt (tableBytes m t) (128 * p + i) ≡ wordAt (slice (1225 + 1408 * tableIndex t + 128 * p) 128 m) i
-unfolding tableBytes
-part-word m t p i l h =
-    let e : 1225 + 1408 * tableIndex t + (128 * p + i) ≡ 1225 + 1408 * tableIndex t + 128 * p + i = omega arith in
-    slice-word (1225 + 1408 * tableIndex t) 1408 m (128 * p + i) (omega arith)
-    ∙ rw e (sym (slice-word (1225 + 1408 * tableIndex t + 128 * p) 128 m i h))
-
 -- row i of the 32 of part p, parts counted from 1: which row of the table it is
 abbrev pub rowOf : ℕ → ℕ → ℕ
 rowOf p i = 32 * (p - 1) + i
 
 -- it is row i of the part's bytes
-part-row : (m : List ℕ) (t p i : ℕ) → p - 1 < 11 → i < 32
-    → let s = slice (1225 + 1408 * tableIndex t + 128 * (p - 1)) 128 m in
-    (level (tableBytes m t) (rowOf p i) ≡ level s i) × (volume (tableBytes m t) (rowOf p i) ≡ volume s i)
-part-row m t p i few l =
+part-row : (s : List ℕ) (p i : ℕ) → i < 32
+    → let q = slice (128 * (p - 1)) 128 s in (level s (rowOf p i) ≡ level q i) × (volume s (rowOf p i) ≡ volume q i)
+part-row s p i l =
     let a : 4 * rowOf p i ≡ 128 * (p - 1) + 4 * i = omega arith in
-    let b : 4 * rowOf p i + 2 ≡ 128 * (p - 1) + (4 * i + 2) = omega arith in
-    (rw a (part-word m t (p - 1) (4 * i) few (omega arith)), rw b (part-word m t (p - 1) (4 * i + 2) few (omega arith)))
+    let b : 4 * rowOf p i + 2 ≡ 128 * (p - 1) + (4 * i + 2) = omega arith in (
+      rw a (sym (slice-word (128 * (p - 1)) 128 s (4 * i) (omega arith))),
+      rw b (sym (slice-word (128 * (p - 1)) 128 s (4 * i + 2) (omega arith))),
+    )
 
--- row i of the 32 that a body sends: four bytes each from byte 5 on, level first
-abbrev pub sentLevel : List ℕ → ℕ → ℕ
-sentLevel c i = wordAt c (4 + 4 * i)
-
-abbrev pub sentVolume : List ℕ → ℕ → ℕ
-sentVolume c i = wordAt c (6 + 4 * i)
+-- a part of a table's bytes is the part of the image
+pub part-of-table : (m : List ℕ) (t p : ℕ) → p - 1 < 11
+    → slice (128 * (p - 1)) 128 (tableBytes m t) ≡ slice (1225 + 1408 * tableIndex t + 128 * (p - 1)) 128 m
+unfolding tableBytes
+part-of-table m t p few = slice-slice (1225 + 1408 * tableIndex t) 1408 (128 * (p - 1)) 128 m (omega arith)
 
 -- word k of what stands behind the first n bytes of a list
 drop-word : (n : ℕ) (l : List ℕ) (k : ℕ) → wordAt (drop n l) k ≡ wordAt l (n + k)
 unfolding wordAt
 drop-word n l k = let e : n + (k + 1) ≡ n + k + 1 = omega arith in rw (getD-drop, getD-drop, e)
+
+-- where a part of a table's bytes is what stands behind the first four of a body, its rows are those that the body sends
+pub part-rows : (s : List ℕ) (p : ℕ) (c : List ℕ) → slice (128 * (p - 1)) 128 s ≡ drop 4 c → (i : ℕ) → i < 32
+    → (level s (rowOf p i) ≡ sentLevel c i) × (volume s (rowOf p i) ≡ sentVolume c i)
+part-rows s p c h i l =
+    let r = part-row s p i l in
+    let e : 4 + (4 * i + 2) ≡ 6 + 4 * i = omega arith in
+    (r .0 ∙ rw h (drop-word 4 c (4 * i)), r .1 ∙ rw (h, ← e) (drop-word 4 c (4 * i + 2)))
 
 module _ (ear : Switch → Hearing) (ok : (s : Switch) → Lawful (ear s)) (v : Version) (m : List ℕ) (xs : List Turn) (t : ℕ) where
   abbrev after : List ℕ
@@ -85,11 +84,9 @@ module _ (ear : Switch → Hearing) (ok : (s : Switch) → Lawful (ear s)) (v : 
       (level (tableBytes after t) (rowOf p i) ≡ sentLevel c i) × (volume (tableBytes after t) (rowOf p i) ≡ sentVolume c i)
   rows-as-sent p k w i l =
       let h = last-write-holds ear ok v (Part (tableIndex t) (p - 1)) m xs k w in
-      let r = part-row after t p i (part-numbers (tableIndex t) (p - 1) (h .fits .cell) .1) l in
       let c = contentsOf (getD xs k noTurn .frame) in
-      let e : 4 + (4 * i + 2) ≡ 6 + 4 * i = omega arith in
-      let sent = holds-part (getD xs k noTurn .frame) after t p h .0 in
-      (r .0 ∙ rw sent (drop-word 4 c (4 * i)), r .1 ∙ rw (sent, ← e) (drop-word 4 c (4 * i + 2)))
+      let few = part-numbers (tableIndex t) (p - 1) (h .fits .cell) .1 in
+      part-rows (tableBytes after t) p c (part-of-table after t p few ∙ holds-part (getD xs k noTurn .frame) after t p h .0) i l
 
   part-stays : (p : ℕ) → isTable t ≡ true → 1 ≤ p → p ≤ 11 → Unwritten ear v (Part (tableIndex t) (p - 1)) m xs → Kept (Part (tableIndex t) (p - 1)) m after
   part-stays p table low high none =
@@ -103,9 +100,10 @@ module _ (ear : Switch → Hearing) (ok : (s : Switch) → Lawful (ear s)) (v : 
   rows-stay p table low high none i l =
       let bytes = part-stays p table low high none .bytes in
       let few : p - 1 < 11 = omega arith in
-      let a = part-row after t p i few l in
-      let b = part-row m t p i few l in
-      (a .0 ∙ rw bytes (sym (b .0)), a .1 ∙ rw bytes (sym (b .1)))
+      let same = part-of-table after t p few ∙ bytes ∙ sym (part-of-table m t p few) in
+      let a = part-row (tableBytes after t) p i l in
+      let b = part-row (tableBytes m t) p i l in
+      (a .0 ∙ rw same (sym (b .0)), a .1 ∙ rw same (sym (b .1)))
 
   -- ---- no part of the table was written
 

@@ -16,6 +16,13 @@ level s i = wordAt s (4 * i)
 abbrev pub volume : List ℕ → ℕ → ℕ
 volume s i = wordAt s (4 * i + 2)
 
+-- row i of the 32 that a body sends: four bytes each from byte 5 on, level first
+abbrev pub sentLevel : List ℕ → ℕ → ℕ
+sentLevel c i = wordAt c (4 + 4 * i)
+
+abbrev pub sentVolume : List ℕ → ℕ → ℕ
+sentVolume c i = wordAt c (6 + 4 * i)
+
 -- ---- for any levels and volumes
 
 -- neither falls from row i to the next

@@ -11,14 +11,14 @@ const ROWS: usize = 352;
 
 pub(crate) const LAST_ROW: usize = 351;
 
-pub(crate) fn level_of(s: &[u8], i: usize) -> u16
+pub fn level_of(s: &[u8], i: usize) -> u16
     requires { ⌜ (length (now s) ≡ 1408) × (i < 352) ⌝ }
     ensures { λ r. ⌜ r ≡ level (now (s .entry)) i ⌝ }
 {
     word_at(s, ROW_SIZE * i)
 }
 
-fn volume_of(s: &[u8], i: usize) -> u16
+pub fn volume_of(s: &[u8], i: usize) -> u16
     requires { ⌜ (length (now s) ≡ 1408) × (i < 352) ⌝ }
     ensures { λ r. ⌜ r ≡ volume (now (s .entry)) i ⌝ }
 {
