@@ -1,0 +1,138 @@
+-- From the file to the answer (document 02, request 10): an accepted file's frames, sent unsealed in any order to a fresh block of its address, are all served;
+-- then all eleven parts are held, and every question about the table is answered by the file's rows, so never 12 and never 13. By the promises alone.
+-- Assumes nothing.
+use mathlib.Core.Path.{_≡_, refl, sym, ap, _∙_}
+use mathlib.Core.Logic.{_≢_}
+use mathlib.Core.List.{List, [], _∷_}
+use mathlib.Core.Bool.{Bool, true, false}
+use Prim.Native.Nat.{ℕ, zero, suc, _≤_, _<_}
+use native.Mathlib.Omega.{arith}
+use lib.ListN.{length, getD, length-map, List·getD-map}
+use borrow.Author.Tests.{eqb-true}
+use Rattle.laws.specs.Bits.{bit, onesIn}
+use Rattle.laws.specs.Checks.{check, judged}
+use Rattle.reorder.specs.Reorder.{outcomes, final, place, pick, Reorders}
+use Rattle.reorder.proofs.Readings.{getD-pick}
+use Rattle.text.specs.Cut.{pieces}
+use Rattle.image.specs.Version.{current}
+use Rattle.image.specs.Cell.{tableIndex}
+use Rattle.image.specs.Words.{tableWord}
+use Rattle.image.specs.Usable.{usable}
+use Rattle.image.specs.Fresh.{fresh}
+use Rattle.image.specs.Held.{lowestMissing, heldOf, heldParts}
+use Rattle.image.proofs.FreshImage.{head-at, fresh-usable}
+use Rattle.rules.specs.declared.switch.Switch.the-variants.{Unsealed}
+use Rattle.izk.specs.Heard.{heard}
+use Rattle.izk.proofs.HeldAfter.{held-is}
+use Rattle.order.specs.Serving.{Call, nothing, framesOf, step, Good, Ran}
+use Rattle.order.proofs.Repeats.{ran-is}
+use Rattle.tables.specs.Rows.{level, volume, neverFall}
+use Rattle.tables.specs.Quantity.{unanswered, whole, covers, answered, quantityAt}
+use Rattle.tables.proofs.LastRow.{never-fall-is}
+use Rattle.tables.proofs.Checked.{covers-if}
+use Rattle.survey.specs.File.{contentsIn, addressIn, tableIn, tableSent, fileNumber}
+use Rattle.survey.specs.Described.{frameAt}
+use Rattle.survey.specs.Sending.{Sends, answerBy, Loaded}
+use Rattle.survey.proofs.Rising.{top-is, top-climbs, row-volume}
+use Rattle.survey.proofs.Accepted.{address-some, table-one, rising}
+use Rattle.survey.proofs.Served.{each-served, after-good, table-loaded, bits-set, whole-loaded}
+
+-- ---- each frame once, in any order, is one way of sending a file
+
+module _ (s : List ℕ) (xs : List Call) (o : List ℕ) (re : Reorders 11 o) (frames : framesOf xs ≡ pick [] (pieces s) o) where
+  same-many : length xs ≡ length o
+  same-many = sym (length-map xs _) ∙ ap length frames ∙ length-map o _
+
+  at : (i : ℕ) → i < length o → getD xs i nothing .frame ≡ frameAt s (place o i)
+  at i l = sym (List·getD-map (λ (x : Call). x .frame) xs i nothing) ∙ ap (λ (l : List (List ℕ)). getD l i []) frames ∙ getD-pick [] (pieces s) o i l
+
+  pub in-any-order : Sends s xs
+  in-any-order =
+      record {
+        only = λ i l. let k : i < length o = omega (arith, same-many) in (place o i, re .inside i k, at i k);
+        each = λ k l. let (i, j, e) = re .all k l in (i, omega (arith, same-many), at i j ∙ ap (frameAt s) e);
+      }
+
+-- ---- what the image then says
+
+-- a word all of whose n lowest bits are set has n of them
+full-ones : (n w : ℕ) → ((k : ℕ) → k < n → bit w k ≡ 1) → onesIn n w ≡ n
+unfolding onesIn
+full-ones zero w h = refl
+full-ones (suc n) w h = omega (arith, h n (omega arith), full-ones n w (λ k l. h k (omega arith)))
+
+many : {S F O : Type 0} (step : S → F → O × S) (s : S) (fs : List F) → length (outcomes step s fs) ≡ length fs
+many step s [] = refl
+many step s (f ∷ fs) = ap suc (many step (step s f .1) fs)
+
+module _ (s : List ℕ) (z : fileNumber s ≡ 0) where
+  abbrev cs : List (List ℕ)
+  cs = contentsIn s
+
+  abbrev t : ℕ
+  t = tableIn cs
+
+  abbrev rows : List ℕ
+  rows = tableSent cs
+
+  pub rows-climb : neverFall rows ≡ true
+  rows-climb = let (n, top) = top-is rows (rising s z) in top-climbs rows n top
+
+  module _ (m : List ℕ) (good : Good current (addressIn cs) m) (xs : List Call) (all : Sends s xs) where
+    abbrev after : List ℕ
+    after = final (step (heard Unsealed) current) m xs
+
+    usable-after : usable current after ≡ true
+    usable-after = after-good s z current m good xs all .0
+
+    held-all : heldParts current after t ≡ record { number = 0; parts = 11; missing = 0 }
+    unfolding heldOf whole
+    held-all =
+        held-is current after t usable-after (table-one s z)
+        ∙ rw (full-ones 11 w (bits-set s z current m good xs all), eqb-true (lowestMissing w) 0 (whole-loaded s z current m good xs all))
+      where
+        w : ℕ
+        w = tableWord after (tableIndex t)
+
+    answered-all : (x : ℕ) → quantityAt current after t x ≡ answerBy rows x
+    unfolding quantityAt judged answerBy
+    answered-all x =
+        rw (usable-after, table-one s z, whole-loaded s z current m good xs all, table-loaded s z current m good xs all, rows-climb)
+
+    -- ---- from the file to the answer, on any usable image of its address
+
+    pub file-loads : {rs : List (ℕ × List ℕ)} {m′ : List ℕ} → Ran Unsealed m xs rs m′ → Loaded s rs m′
+    file-loads ran =
+        let (p, q) = ran-is Unsealed ran in
+        rw (p, q) (record {
+          served = λ i l. each-served s z current m good xs all i (omega (arith, many (step (heard Unsealed) current) m xs));
+          held = held-all;
+          answers = answered-all;
+        })
+
+  -- ---- and so on a fresh one
+
+  pub from-file-to-answer : (xs : List Call) → Sends s xs → {rs : List (ℕ × List ℕ)} {m′ : List ℕ}
+      → Ran Unsealed (fresh current (addressIn cs)) xs rs m′ → Loaded s rs m′
+  from-file-to-answer xs all =
+      file-loads (fresh current (addressIn cs)) (fresh-usable current (addressIn cs) (address-some s z), head-at current (addressIn cs) 5 (omega arith)) xs all
+
+  -- ---- what that says of a question
+
+  module _ {rs : List (ℕ × List ℕ)} {m : List ℕ} (loaded : Loaded s rs m) where
+    pub never-12-nor-13 : (x : ℕ) → (quantityAt current m t x .number ≢ 12) × (quantityAt current m t x .number ≢ 13)
+    unfolding answerBy judged answered
+    never-12-nor-13 x = rw (loaded .answers x) (go (covers rows x))
+      where
+        go : (b : Bool) → let n = judged unanswered (check 14 b ∷ []) (answered rows x) .number in (n ≢ 12) × (n ≢ 13)
+        go true = (λ e. omega arith, λ e. omega arith)
+        go false = (λ e. omega arith, λ e. omega arith)
+
+    -- at the level of any row of the file the volume is that row's
+    pub each-row-answers : (i : ℕ) → i ≤ 351 → quantityAt current m t (level rows i) ≡ record { number = 0; volume = volume rows i }
+    unfolding answerBy judged answered
+    each-row-answers i l =
+        let (n, top) = top-is rows (rising s z) in
+        let climb = never-fall-is rows rows-climb in
+        let inside = covers-if rows (level rows i) (climb 0 i (omega arith) l .0) (climb i 351 l (omega arith) .0) in
+        loaded .answers (level rows i) ∙ rw (inside, row-volume rows n top i l)

@@ -1,0 +1,12 @@
+pub mod Rising
+pub mod Frames
+pub mod PartNumbers
+pub mod Tables
+pub mod Gathering
+pub mod Refusals
+pub mod Reading
+pub mod Checking
+pub mod Accepted
+pub mod Described
+pub mod Served
+pub mod Answers
