@@ -70,6 +70,13 @@ fn quantity(rec: &[u8], image: &[u8]) {
     print::end();
 }
 
+fn check(file: &[u8]) {
+    let number = survey::check_file(file);
+    print::letter(b'C');
+    print::number(number as u64);
+    print::end();
+}
+
 fn take_apart(frame: &[u8], out: &mut [u8]) {
     answered(b'T', izk::take_apart(frame, out));
     print::bytes(out);
@@ -98,12 +105,13 @@ fn move_between(letter: u8, image: &[u8], second: &mut [u8]) {
     }
 }
 
-// A record that prints a line, of one buffer. A frame, or the contents of one, stands behind its length.
+// A record that prints a line, of one buffer. A frame, the contents of one, or a table file stands behind its length.
 fn call(rec: &[u8], image: &mut [u8], out: &mut [u8]) {
     let letter = script::byte(rec, 0);
     let from = least(3, rec.len());
     match letter {
         b'A' => quantity(rec, image),
+        b'C' => check(&rec[from..]),
         b'F' => fresh(script::byte(rec, 1), image),
         b'H' => held(rec, image),
         b'K' => serve(letter, Switch::Sealed, &rec[from..], image, out),

@@ -60,7 +60,7 @@ fn least_size(letter: u8) -> usize
     match letter {
         b'D' | b'U' | b'X' => 1,
         b'F' | b'W' | b'Y' => 2,
-        b'B' | b'K' | b'N' | b'S' | b'T' | b'V' => 3,
+        b'B' | b'C' | b'K' | b'N' | b'S' | b'T' | b'V' => 3,
         b'L' | b'O' | b'Q' => 4,
         b'H' | b'P' => 5,
         b'A' => 9,

@@ -1,4 +1,5 @@
 // Frames served, taken apart and built.
+use crate::images;
 use crate::print;
 use libc::STDOUT_FILENO;
 use output::Answer;
@@ -47,6 +48,16 @@ pub(crate) fn line(frame: &[u8], switch: Switch, image: &mut [u8]) {
     match switch {
         Switch::Unsealed => desk(frame, image),
         Switch::Sealed => sealed(frame, image),
+    }
+}
+
+// The frame of these contents, its checksum added, is laid over a buffer from an offset on.
+pub(crate) fn join(bytes: &[u8], at: usize, buffer: &mut [u8]) {
+    let mut frame = io::buffer();
+    let built = izk::build(bytes, &mut frame);
+    let n = built.len;
+    if n <= 269 {
+        images::put(buffer, at, &frame[0..n]);
     }
 }
 

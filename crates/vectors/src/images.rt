@@ -10,6 +10,8 @@ ghost use mathlib.Core.Logic.{_≢_};
 ghost use Rattle.laws.specs.Checks.{firstFailing};
 ghost use Rattle.image.specs.Version.{current};
 ghost use Rattle.tables.specs.Quantity.{tableBytes, quantityChecks, answered};
+ghost use Rattle.survey.specs.File.{fileChecks};
+ghost use Rattle.survey.specs.Described.{Says};
 
 pub(crate) fn put(image: &mut [u8], at: usize, bytes: &[u8]) {
     if image.len() < at {
@@ -109,6 +111,19 @@ pub(crate) fn quantity(image: &[u8], level: u32, two: bool, a: u8, b: u8) {
     let q = volume_at(image, table, level);
     print::start(q.number as usize);
     print::next(q.volume as usize);
+}
+
+// By the promise of the checker alone: what it says of these very bytes is put to use here.
+fn number_of(bytes: &[u8]) -> u8
+    ensures { λ r. ⌜ r ≡ firstFailing (fileChecks (now (bytes .entry))) ⌝ }
+    ensures { λ r. ⌜ Says (now (bytes .entry)) r ⌝ }
+{
+    survey::check_file(bytes)
+}
+
+// As a table file.
+pub(crate) fn file(bytes: &[u8]) {
+    print::start(number_of(bytes) as usize);
 }
 
 // The sum of the first n bytes.

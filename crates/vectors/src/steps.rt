@@ -35,6 +35,7 @@ fn call(letter: u8, number: u32, bytes: &[u8], a: u8, b: u8, switch: Switch, ima
         b'q' => images::quantity(image, number, 1 < bytes.len(), a, b),
         b't' => images::total(image, n),
         b'u' => images::usable(image, a),
+        b'y' => images::file(image),
         _ => answers::answer_into(letter, bytes, switch, n, image),
     }
 }
@@ -77,6 +78,7 @@ fn run(s: &[u8], mut turn: Turn, image: &mut [u8], second: &mut [u8]) -> Turn {
         b'f' => {
             izk::fresh(&mut image[0..long], a);
         }
+        b'j' => answers::join(bytes, number as usize, image),
         b'k' => return keyed(turn, a),
         b'e' => turn.turned = !turned,
         b'l' => turn.long = number as usize,
