@@ -169,6 +169,12 @@ planted 'table 11 as table 1' '^  at       record A 11 100 ' probe - "sed '24s/^
 planted 'the first row of several' '^  got      A 0 300<0A>' probe - "sed '25s/^A 0 450\$/A 0 300/'"
 planted '14 before 13' '^  at       record A 1 99 ' probe - "sed '28s/^A 13 0\$/A 14 0/'"
 planted 'an image changed by a question' '^FAILED probe script [0-9]+ \(quantity, first questions\)' probe - "sed '29{/^A 12 0\$/{n;s/^S 0 11 ./&9/}}'"
+# The first table files are an even table from its last part to its first, the same without the last 0Ah, and with another command in the first frame and
+# another checksum in the last one; then it is sent. Behind line 31, on which it is checked once more, the mask is read.
+planted 'rows judged in the order of the file' '^  got      C 20<0A>' probe - "sed '1s/^C 0\$/C 20/'"
+planted 'a last frame without 0Ah accepted' '^  got      C 0<0A>' probe - "sed '2s/^C 17\$/C 0/'"
+planted 'the first frame that fails decides' '^  got      C 18<0A>' probe - "sed '3s/^C 17\$/C 18/'"
+planted 'an image changed by a check' '^FAILED probe script [0-9]+ \(table file, first files\)' probe - "sed '31{/^C 0\$/{n;s/^S 0 11 ./&9/}}'"
 planted 'a bad end of the probe' 'ended with exit status: 3$' probe 3 cat
 # The panel's first script is a line of the fresh image and the paper's rows by the switch's number 0: P1, P2, a line of another fresh image, P3 to P12.
 # Before a call each lent number is all ones. The digests are those of the fresh image, and of an output whose first byte is 3Ah.

@@ -284,6 +284,7 @@ fn call_of(record: Record) -> Option<(char, Vec<u8>)> {
         Record::Quantity { table, level } => {
             ('A', [table.to_be_bytes(), level.to_be_bytes()].concat())
         }
+        Record::TableFile(file) => ('C', file.to_vec()),
         Record::MoveUp => ('U', Vec::new()),
         Record::MoveDown => ('D', Vec::new()),
         _ => return None,
@@ -325,6 +326,7 @@ fn lengths(probe: &Probe, record: Record) -> String {
             let (image, second) = (probe.image_length, probe.second_length);
             format!("image {image}, second {second}")
         }
+        Record::TableFile(file) => format!("{} bytes", file.len()),
         _ => image_and_output(probe),
     }
 }
@@ -365,6 +367,7 @@ fn spell(record: Record) -> String {
         Record::Build(bytes) => format!("B {}", printable(bytes)),
         Record::Held(table) => format!("H {table}"),
         Record::Quantity { table, level } => format!("A {table} {level}"),
+        Record::TableFile(file) => format!("C {}", printable(file)),
         Record::MoveUp => "U".to_string(),
         Record::MoveDown => "D".to_string(),
         _ => "that is broken".to_string(),

@@ -8,6 +8,7 @@ pub mod panel;
 mod quantity;
 mod sealed;
 mod signatures;
+mod table_file;
 mod temperatures;
 
 use std::collections::BTreeMap;
@@ -30,18 +31,21 @@ const OF_FRAMES: [Call; 4] = [
     ('T', "take apart", &[0, 2, 3, 4, 5, 6]),
 ];
 
-const OTHERS: [Call; 7] = [
+const OTHERS: [Call; 8] = [
     ('B', "build", &[0, 2, 3]),
     ('F', "fresh", &[0, 1, 11]),
     ('H', "held parts", &[0, 1, 10]),
     ('A', "quantity", &[0, 1, 10, 12, 13, 14]),
+    ('C', "table file", &[0, 17, 18, 19, 20]),
     ('U', "move up", &[0, 1]),
     ('D', "move down", &[0, 1]),
     ('g', "off the line", &[0, 1, 2, 3, 4, 5, 6, 7, 8, 9, 10, 11]),
 ];
 
 /// The numbers that can come up; the one between belongs to a wish to come.
-const NUMBERS: [u8; 16] = [0, 1, 2, 3, 4, 5, 6, 7, 8, 9, 10, 11, 12, 13, 14, 16];
+const NUMBERS: [u8; 20] = [
+    0, 1, 2, 3, 4, 5, 6, 7, 8, 9, 10, 11, 12, 13, 14, 16, 17, 18, 19, 20,
+];
 
 /// The frames served unsealed that are counted by command: by call, and
 /// whether a letter of theirs is small.
@@ -127,6 +131,8 @@ enum Thing {
     Panel(bool, panel::Kind),
     /// What is counted of questions for a volume, by whether they were drawn.
     Quantity(bool, quantity::Kind),
+    /// What is counted of table files, by whether they were drawn.
+    TableFile(bool, table_file::Kind),
 }
 
 /// How many came out as they should, of so many.
@@ -158,6 +164,8 @@ pub struct Coverage {
     panel: Option<panel::Tally>,
     /// Questions for a volume as they come up.
     quantity: quantity::Tally,
+    /// Table files as they come up.
+    table_file: table_file::Tally,
 }
 
 impl Coverage {
@@ -171,6 +179,7 @@ impl Coverage {
             listener: listener::Tally::default(),
             panel: panel.then(panel::Tally::new),
             quantity: quantity::Tally::default(),
+            table_file: table_file::Tally::default(),
         };
         for (seen, rule) in fixed::wanted() {
             coverage.fixed.entry(seen).or_default().0.push(rule);
@@ -201,6 +210,7 @@ impl Coverage {
         self.count_order(came);
         self.count_listener(came);
         self.count_quantity(came);
+        self.count_table_file(came);
         let seen = (call, input.to_vec(), line.to_string());
         if let Some((_, count)) = self.fixed.get_mut(&seen) {
             *count += 1;
@@ -268,6 +278,7 @@ impl Coverage {
         missing.extend(self.missing_of_listener());
         missing.extend(self.missing_of_panel());
         missing.extend(self.missing_of_quantity());
+        missing.extend(self.missing_of_table_file());
         for ((_, _, line), (rules, count)) in &self.fixed {
             if *count < rules.len() {
                 missing.push(format!("{} with the line {line}", rules.join("; ")));
@@ -291,6 +302,7 @@ impl Coverage {
         self.print_listener(out)?;
         self.print_panel(out)?;
         self.print_quantity(out)?;
+        self.print_table_file(out)?;
         let fixed = self.fixed.values();
         let wanted: usize = fixed.clone().map(|(rules, _)| rules.len()).sum();
         let came: usize = fixed.map(|(rules, count)| rules.len().min(*count)).sum();
@@ -454,6 +466,7 @@ fn wanted() -> Vec<(Thing, String)> {
     wanted.extend(order::wanted());
     wanted.extend(listener::wanted());
     wanted.extend(quantity::wanted());
+    wanted.extend(table_file::wanted());
     wanted
 }
 

@@ -13,6 +13,7 @@ mod quantity;
 mod sealed;
 mod signatures;
 mod small_letters;
+mod table_file;
 pub mod temperatures;
 
 use std::sync::LazyLock;
@@ -38,7 +39,7 @@ pub struct Step {
     pub letter: char,
     /// What it is given: a frame, and before it the switch if that is a number,
     /// contents, an address or a table's number, and behind that a level if a
-    /// volume is asked for; of a move nothing.
+    /// volume is asked for, or a table file; of a move nothing.
     pub input: Vec<u8>,
     /// What was changed behind the block's back right before it.
     pub changed: Vec<Change>,
@@ -140,6 +141,7 @@ impl Step {
         let (letter, number, [parts, missing]) = (self.letter, self.number, self.held);
         match letter {
             'A' => format!("A {number} {}", self.volume),
+            'C' => format!("C {number}"),
             _ => format!("{letter} {number} {parts} {missing}"),
         }
     }
@@ -245,7 +247,7 @@ impl Session {
         for step in &self.steps {
             buffers.take(step);
             lines.push(match step.letter {
-                'H' | 'J' | 'A' => step.answer_line(),
+                'H' | 'J' | 'A' | 'C' => step.answer_line(),
                 _ => self.line_of(step, &mut buffers),
             });
         }
@@ -358,6 +360,7 @@ fn all_sessions() -> Vec<Session> {
     sessions.extend(moves::sessions());
     sessions.extend(order::sessions());
     sessions.extend(quantity::sessions());
+    sessions.extend(table_file::sessions());
     sessions
 }
 

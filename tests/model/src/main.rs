@@ -33,6 +33,8 @@ mod quantity;
 #[cfg(test)]
 mod rows;
 mod streams;
+mod table_file;
+mod table_files;
 mod tables;
 
 use std::env;
@@ -87,7 +89,7 @@ fn pass(limit: usize, lines: fn(&[u8]) -> Vec<String>) -> io::Result<bool> {
 
 fn options(mut words: impl Iterator<Item = String>) -> Result<compare::Options, String> {
     let (mut desk, mut probe, mut panel) = (None, None, None);
-    let (mut streams, mut seed, mut failures) = (441, 2012, usize::MAX);
+    let (mut streams, mut seed, mut failures) = (508, 2012, usize::MAX);
     let mut prefix = Vec::new();
     let mut panel_prefix = None;
     while let Some(word) = words.next() {

@@ -311,13 +311,14 @@ const CUT: [&[u8]; 10] = [
 ];
 
 /// What the probe knows and the panel's program does not, and what neither does.
-const UNKNOWN: [&[u8]; 16] = [
+const UNKNOWN: [&[u8]; 17] = [
     b"X",
     b"T\x00\x09:0132CD\r\n",
     b"B\x00\x02\x01\x32",
     b"U",
     b"D",
     b"A\x00\x00\x00\x01\x00\x00\x00\x00",
+    b"C\x00\x00",
     b"R\x01\x00\x00\x00\x00\x00\x00\x00\x00",
     b"Y\x01",
     b"Q\x00\x00\x01",

@@ -1,12 +1,13 @@
 //! The probe program: a script of calls on buffers of any length, so that
 //! what the desk cannot show (numbers 1 and 2, images, moves from one version
 //! to the other, untouched output, what a listener hands out, the volume at a
-//! level) is compared as well.
+//! level, the number of a table file) is compared as well.
 
 use std::mem::swap;
 
 use crate::block::{self, Refusal, Switch, IMAGE_BYTES};
 use crate::listener::Listener;
+use crate::table_file;
 
 pub const SCRIPT_MAX: usize = 65_536;
 
@@ -38,6 +39,8 @@ pub enum Record<'a> {
         table: u32,
         level: u32,
     },
+    /// Bytes that are checked as a table file.
+    TableFile(&'a [u8]),
     MoveUp,
     MoveDown,
     /// The flag and the count of the listener's record.
@@ -145,6 +148,7 @@ impl<'a> Records<'a> {
                 table: self.number(4)? as u32,
                 level: self.number(4)? as u32,
             },
+            b'C' => Record::TableFile(self.counted()?),
             b'U' => Record::MoveUp,
             b'D' => Record::MoveDown,
             b'R' => Record::Gathering {
@@ -309,6 +313,7 @@ impl Probe {
                 let answer = block::volume_at(image, table, level);
                 format!("A {} {}", number(&answer), answer.unwrap_or(0))
             }
+            Record::TableFile(file) => format!("C {}", table_file::number(file)),
             Record::MoveUp => {
                 let number = number(&block::move_up(image, second));
                 format!("U {number} {} {}", digest(image), digest(second))

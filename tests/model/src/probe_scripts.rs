@@ -1,12 +1,15 @@
 //! Scripts for the probe program: first those with a purpose of their own,
-//! then the fixed calls and the fixed lines, then broken records, then calls by
-//! chance.
+//! then the fixed calls and the fixed lines, then more with a purpose, then
+//! broken records, then calls by chance.
 
 mod listener;
 mod moves;
 mod order;
 mod quantity;
+mod table_file;
 
+#[cfg(test)]
+pub use self::table_file::one_wrong_files;
 use crate::fixed::listener::{hearings, Hearing};
 use crate::fixed::{self, Change, Session, FILL};
 use crate::items::{self, Item, ITEMS};
@@ -25,7 +28,7 @@ const TABLES: usize = 1225;
 
 pub type Case = (&'static str, fn(&mut Rng) -> Script);
 
-const CASES: [Case; 54] = [
+const CASES: [Case; 55] = [
     ("empty", |_| Script::default()),
     // These stand early, so that faults planted in them are found soon.
     ("moves", moves::done),
@@ -43,6 +46,7 @@ const CASES: [Case; 54] = [
     ("listener, served in any noise", listener::served_in_any),
     ("listener, among other calls", listener::among_others),
     ("quantity, first questions", quantity::first_questions),
+    ("table file, first files", table_file::first_files),
     ("rows at other addresses", other_addresses),
     ("fresh images", fresh_images),
     ("image lengths", image_lengths),
@@ -82,6 +86,10 @@ const CASES: [Case; 54] = [
     ("quantity, among other calls", quantity::among_others),
     ("quantity, every row once more", quantity::every_row),
 ];
+
+/// Those that come behind the fixed calls and lines. They are many, and a fault
+/// that is planted in a fixed call would be found later behind them.
+const LATER: &[Case] = &table_file::CASES;
 
 /// A script under construction.
 #[derive(Default)]
@@ -176,12 +184,12 @@ impl Script {
 
 /// How many scripts have a purpose of their own.
 pub fn purposeful() -> usize {
-    CASES.len() + fixed::sessions().len() + hearings().len() + BROKEN
+    CASES.len() + fixed::sessions().len() + hearings().len() + LATER.len() + BROKEN
 }
 
 /// Whether the script of that number is one of fixed calls or of fixed lines.
 pub fn is_fixed(number: usize) -> bool {
-    (CASES.len()..purposeful() - BROKEN).contains(&number)
+    (CASES.len()..purposeful() - BROKEN - LATER.len()).contains(&number)
 }
 
 /// A script and what it is for.
@@ -199,7 +207,11 @@ pub fn script(seed: u64, number: usize) -> (String, Vec<u8>) {
     if let Some(hearing) = hearings().get(number) {
         return (hearing.name.to_string(), fixed_lines(hearing));
     }
-    match broken(number - hearings().len()) {
+    let number = number - hearings().len();
+    if let Some((name, make)) = LATER.get(number) {
+        return (name.to_string(), make(&mut rng).0);
+    }
+    match broken(number - LATER.len()) {
         Some(script) => ("broken record".to_string(), script.0),
         None => ("calls by chance".to_string(), by_chance(&mut rng).0),
     }
@@ -859,7 +871,7 @@ fn records_past_end(_: &mut Rng) -> Script {
 }
 
 /// Each kind of record that goes on behind its letter.
-const WHOLE: [&[u8]; 16] = [
+const WHOLE: [&[u8]; 17] = [
     b"L\x00\x5D\x09",
     b"P\x00\x00\x06\x01",
     b"W\x01",
@@ -874,13 +886,14 @@ const WHOLE: [&[u8]; 16] = [
     b"R\x01\x00\x00\x00\x00\x00\x00\x00\x00",
     b"Y\x01",
     b"Q\x00\x00\x01",
+    b"C\x00\x0A:0132CD\r\n:",
     // One byte short these have a whole frame in them.
     b"N\x00\x0A:0132CD\r\n:",
     b"V\x00\x0A:0132CD\r\n:",
 ];
 
 /// Letters that begin no record.
-const UNKNOWN: [&[u8]; 15] = [
+const UNKNOWN: [&[u8]; 16] = [
     b"?",
     b"s\x00\x00",
     b"k\x00\x00",
@@ -888,6 +901,7 @@ const UNKNOWN: [&[u8]; 15] = [
     b"d",
     b"x",
     b"a\x00\x00\x00\x01\x00\x00\x00\x00",
+    b"c\x00\x00",
     b"w\x00",
     b"n\x00\x00",
     b"v\x00\x00",

@@ -6,6 +6,7 @@ mod order;
 mod panel;
 mod quantity;
 mod signatures;
+mod table_file;
 
 use crate::block::{build, fresh, held_parts, serve, take_apart, Refusal, Switch, IMAGE_BYTES};
 use crate::fixed::temperatures::RISING;

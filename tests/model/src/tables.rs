@@ -145,6 +145,18 @@ pub fn padded(rng: &mut Rng) -> Vec<Row> {
     rows
 }
 
+/// A table as a table file has one (document 02, wish 10): levels rise and volumes
+/// never fall up to this row, which all rows behind it equal.
+pub fn climbing(rng: &mut Rng, last: usize) -> Vec<Row> {
+    let mut rows = match rng.percent(60) {
+        true => strict(rng),
+        false => joined(&rising(rng), &never_falling(rng)),
+    };
+    let row = rows[last - 1];
+    rows[last..].fill(row);
+    rows
+}
+
 /// A table with rows of one level in places, and the volumes rising there.
 pub fn with_runs(rng: &mut Rng) -> Vec<Row> {
     let mut levels = rising(rng);

@@ -10,6 +10,7 @@ mod refused;
 mod rows;
 mod written;
 
+pub use self::written::Writer;
 use super::{serve, Change, Session, Step};
 use crate::items::item;
 use crate::tables::{bytes, Row, ROWS};

@@ -16,14 +16,14 @@ pub fn sessions() -> Vec<Session> {
 }
 
 /// A table that was empty and is written part by part.
-struct Writer {
+pub struct Writer {
     table: u8,
     stored: Vec<u8>,
     word: u16,
 }
 
 impl Writer {
-    fn new(table: u8) -> Self {
+    pub fn new(table: u8) -> Self {
         Writer {
             table,
             stored: vec![0; 4 * ROWS],
@@ -32,7 +32,7 @@ impl Writer {
     }
 
     /// Writes a part of these rows.
-    fn write(&mut self, number: u8, rows: &[Row]) -> Step {
+    pub fn write(&mut self, number: u8, rows: &[Row]) -> Step {
         let data = part(self.table, rows, number);
         let first = 128 * usize::from(number - 1);
         self.stored[first..first + 128].copy_from_slice(&data[2..]);
