@@ -117,7 +117,7 @@ module _ (f : List ℕ) (p : AllPass (frameChecks f)) where
       let h : 0 < length f = omega arith in
       rw (e, take-add 1 (length f - 3) f, take-suc f 0 0 h, ends-are f (passed-ends f p) .0)
 
-  frame-is : f ≡ 58 ∷ (inner f ++ (13 ∷ (10 ∷ [])))
+  pub frame-is : f ≡ 58 ∷ (inner f ++ (13 ∷ (10 ∷ [])))
   frame-is = sym (take-append-drop (length f - 2) f) ∙ rw (head-is, tail-is)
 
   -- its ends are no letters

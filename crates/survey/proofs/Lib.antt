@@ -10,3 +10,4 @@ pub mod Accepted
 pub mod Described
 pub mod Served
 pub mod Answers
+pub mod Written
