@@ -55,7 +55,7 @@
    function for it here: the host lays it out, as the example does. After that, the host only lends it. An image of version 1
    must be moved first, and there is no function here for that either: docs/PROTOCOL.md has how it becomes one of version 2.
    How frames are found among the bytes of a line stands there too, under "Frames off a noisy line".
-   Nor has the volume at a level a function here yet.
+   Nor have the volume at a level and the checker of a table file a function here yet.
 
    Stack. Of the calls of tests/panel/cases.c, none of izk_serve was measured to take more than 552 bytes, and none of
    izk_held_parts more than 72, with the return address and what arguments the caller pushes counted in; tests/panel/stack.c

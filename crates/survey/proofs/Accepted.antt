@@ -1,5 +1,5 @@
 -- What an accepted file is, in the shapes that sending it needs. Assumes nothing.
-use mathlib.Core.Path.{_≡_, sym, _∙_}
+use mathlib.Core.Path.{_≡_}
 use mathlib.Core.Logic.{_≢_}
 use mathlib.Core.List.{List, []}
 use mathlib.Core.Bool.{true}
@@ -7,7 +7,7 @@ use Prim.Native.Nat.{ℕ, _≤_, _<_}
 use native.Mathlib.Omega.{arith}
 use lib.ListN.{length}
 use Rattle.laws.specs.Checks.{within, AllPass}
-use Rattle.laws.proofs.Tests.{all-at, among-is}
+use Rattle.laws.proofs.Tests.{all-at}
 use Rattle.laws.proofs.Checks.{all-pass-is}
 use Rattle.text.specs.Cut.{pieces}
 use Rattle.frame.specs.Apart.{frameChecks}
@@ -16,9 +16,9 @@ use Rattle.survey.specs.Rows.{risesThenStays}
 use Rattle.survey.specs.File.{isFrame, contentsIn, addressIn, tableIn, sends, partsIn, contentsWith, tableSent}
 use Rattle.survey.specs.File.{elevenFrames, oneTable, eachOnce, fileNumber}
 use Rattle.survey.specs.Described.{frameAt, contentsAt, partAt}
-use Rattle.survey.proofs.PartNumbers.{each-is-there}
 use Rattle.survey.proofs.Frames.{frames-ask, table-asks, parts-ask, contents-at, contents-many, part-at, parts-many, contents-with}
 use Rattle.survey.proofs.Refusals.{passes-all}
+use Rattle.survey.proofs.Described.{each-part, described-exactly}
 
 module _ (s : List ℕ) (z : fileNumber s ≡ 0) where
   abbrev cs : List (List ℕ)
@@ -63,9 +63,7 @@ module _ (s : List ℕ) (z : fileNumber s ≡ 0) where
 
   -- each is there
   pub part-there : (p : ℕ) → 1 ≤ p → p ≤ 11 → (k : ℕ) × (k < 11) × (partAt s k ≡ p)
-  part-there p a b =
-      let (k, l, e) = among-is p (partsIn cs) (each-is-there (partsIn cs) (parts-many s ∙ eleven) once p a b) in
-      (k, omega (arith, parts-many s, eleven), sym (part-at s k) ∙ e)
+  part-there = let d = described-exactly s .0 z in each-part s (d .frames) (d .parts)
 
   pub contents-of-part : (k : ℕ) → k < 11 → contentsWith (partAt s k) cs ≡ contentsAt s k
   contents-of-part k l =

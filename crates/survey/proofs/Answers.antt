@@ -31,9 +31,10 @@ use Rattle.tables.specs.Quantity.{unanswered, whole, covers, answered, quantity
 use Rattle.tables.proofs.LastRow.{never-fall-is}
 use Rattle.tables.proofs.Checked.{covers-if}
 use Rattle.survey.specs.File.{contentsIn, addressIn, tableIn, tableSent, fileNumber}
-use Rattle.survey.specs.Described.{frameAt}
+use Rattle.survey.specs.Described.{frameAt, Row}
 use Rattle.survey.specs.Sending.{Sends, answerBy, Loaded}
 use Rattle.survey.proofs.Rising.{top-is, top-climbs, row-volume}
+use Rattle.survey.proofs.Described.{row-once, described-exactly}
 use Rattle.survey.proofs.Accepted.{address-some, table-one, rising}
 use Rattle.survey.proofs.Served.{each-served, after-good, table-loaded, bits-set, whole-loaded}
 
@@ -101,10 +102,11 @@ module _ (s : List ℕ) (z : fileNumber s ≡ 0) where
 
     -- ---- from the file to the answer, on any usable image of its address
 
-    pub file-loads : {rs : List (ℕ × List ℕ)} {m′ : List ℕ} → Ran Unsealed m xs rs m′ → Loaded s rs m′
+    pub file-loads : {rs : List (ℕ × List ℕ)} {m′ : List ℕ} → Ran Unsealed m xs rs m′ → Loaded s xs rs m′
     file-loads ran =
         let (p, q) = ran-is Unsealed ran in
         rw (p, q) (record {
+          all-answered = many (step (heard Unsealed) current) m xs;
           served = λ i l. each-served s z current m good xs all i (omega (arith, many (step (heard Unsealed) current) m xs));
           held = held-all;
           answers = answered-all;
@@ -112,27 +114,41 @@ module _ (s : List ℕ) (z : fileNumber s ≡ 0) where
 
   -- ---- and so on a fresh one
 
-  pub from-file-to-answer : (xs : List Call) → Sends s xs → {rs : List (ℕ × List ℕ)} {m′ : List ℕ}
-      → Ran Unsealed (fresh current (addressIn cs)) xs rs m′ → Loaded s rs m′
+  pub from-file-to-answer : (xs : List Call) → Sends s xs → {rs : List (ℕ × List ℕ)} {m : List ℕ}
+      → Ran Unsealed (fresh current (addressIn cs)) xs rs m → Loaded s xs rs m
   from-file-to-answer xs all =
       file-loads (fresh current (addressIn cs)) (fresh-usable current (addressIn cs) (address-some s z), head-at current (addressIn cs) 5 (omega arith)) xs all
 
-  -- ---- what that says of a question
+  -- each of the eleven once, in any order
+  pub eleven-sent : (xs : List Call) (o : List ℕ) → Reorders 11 o → framesOf xs ≡ pick [] (pieces s) o → {rs : List (ℕ × List ℕ)} {m : List ℕ}
+      → Ran Unsealed (fresh current (addressIn cs)) xs rs m → Loaded s xs rs m
+  eleven-sent xs o re frames = from-file-to-answer xs (in-any-order s xs o re frames)
 
-  module _ {rs : List (ℕ × List ℕ)} {m : List ℕ} (loaded : Loaded s rs m) where
-    pub never-12-nor-13 : (x : ℕ) → (quantityAt current m t x .number ≢ 12) × (quantityAt current m t x .number ≢ 13)
-    unfolding answerBy judged answered
-    never-12-nor-13 x = rw (loaded .answers x) (go (covers rows x))
-      where
-        go : (b : Bool) → let n = judged unanswered (check 14 b ∷ []) (answered rows x) .number in (n ≢ 12) × (n ≢ 13)
-        go true = (λ e. omega arith, λ e. omega arith)
-        go false = (λ e. omega arith, λ e. omega arith)
+-- ---- what that says of a question
 
-    -- at the level of any row of the file the volume is that row's
-    pub each-row-answers : (i : ℕ) → i ≤ 351 → quantityAt current m t (level rows i) ≡ record { number = 0; volume = volume rows i }
+module _ {s : List ℕ} {xs : List Call} {rs : List (ℕ × List ℕ)} {m : List ℕ} (loaded : Loaded s xs rs m) where
+  pub never-12-nor-13 : (x : ℕ) → let n = quantityAt current m (tableIn (contentsIn s)) x .number in (n ≢ 12) × (n ≢ 13)
+  unfolding answerBy judged answered
+  never-12-nor-13 x = rw (loaded .answers x) (go (covers (tableSent (contentsIn s)) x))
+    where
+      go : (b : Bool) → let n = judged unanswered (check 14 b ∷ []) (answered (tableSent (contentsIn s)) x) .number in (n ≢ 12) × (n ≢ 13)
+      go true = (λ e. omega arith, λ e. omega arith)
+      go false = (λ e. omega arith, λ e. omega arith)
+
+  -- at the level of any row of the file the volume is that row's
+  module _ (z : fileNumber s ≡ 0) where
+    abbrev table : List ℕ
+    table = tableSent (contentsIn s)
+
+    at-each-row : (i : ℕ) → i ≤ 351 → quantityAt current m (tableIn (contentsIn s)) (level table i) ≡ record { number = 0; volume = volume table i }
     unfolding answerBy judged answered
-    each-row-answers i l =
-        let (n, top) = top-is rows (rising s z) in
-        let climb = never-fall-is rows rows-climb in
-        let inside = covers-if rows (level rows i) (climb 0 i (omega arith) l .0) (climb i 351 l (omega arith) .0) in
-        loaded .answers (level rows i) ∙ rw (inside, row-volume rows n top i l)
+    at-each-row i l =
+        let (n, top) = top-is table (rising s z) in
+        let climb = never-fall-is table (rows-climb s z) in
+        let inside = covers-if table (level table i) (climb 0 i (omega arith) l .0) (climb i 351 l (omega arith) .0) in
+        loaded .answers (level table i) ∙ rw (inside, row-volume table n top i l)
+
+    pub each-row-answers : {r l v : ℕ} → Row s r l v → quantityAt current m (tableIn (contentsIn s)) l ≡ record { number = 0; volume = v }
+    each-row-answers {r} row =
+        let (i, a, b) = row-once s (described-exactly s .0 z) row in
+        rw (sym a, sym b) (at-each-row r i)

@@ -105,6 +105,12 @@ module _ (s : List ℕ) where
         inside : (k : ℕ) → k < length (partsIn cs) → within 1 11 (getD (partsIn cs) k 0) ≡ true
         inside k l = let q = p .inside k (omega (arith, numbers)) in rw (part-at s k) (within-in 1 11 _ (q .0) (q .1))
 
+    -- each of the eleven is there
+    pub each-part : Parts s → (p : ℕ) → 1 ≤ p → p ≤ 11 → (k : ℕ) × (k < 11) × (partAt s k ≡ p)
+    each-part parts p a b =
+        let (k, l, e) = among-is p (partsIn cs) (each-is-there (partsIn cs) numbers (parts-if parts) p a b) in
+        (k, omega (arith, numbers), sym (part-at s k) ∙ e)
+
     -- ---- the rows
 
     module _ (one : oneTable cs ≡ true) (once : eachOnce (partsIn cs) ≡ true) where
@@ -124,9 +130,7 @@ module _ (s : List ℕ) where
       -- and there is one
       row-there : (r : ℕ) → r ≤ 351 → Row s r (level table r) (volume table r)
       row-there r l =
-          let (k, i, e) = among-is (r / 32 + 1) (partsIn cs) (each-is-there (partsIn cs) numbers once (r / 32 + 1) (omega arith) (omega arith)) in
-          let j : k < 11 = omega (arith, numbers) in
-          let f : partAt s k ≡ r / 32 + 1 = sym (part-at s k) ∙ e in
+          let (k, j, f) = each-part (parts-is once) (r / 32 + 1) (omega arith) (omega arith) in
           let p = part-rows table (partAt s k) (contentsAt s k) (part-is k j) (r % 32) (omega arith) in
           let g : rowOf (partAt s k) (r % 32) ≡ r = omega arith in
           record { frame = k; inside = j; part = f; level-is = rw g at (p .0); volume-is = rw g at (p .1) }
@@ -155,6 +159,23 @@ module _ (s : List ℕ) where
             rising = λ i a. w .rising i _ _ _ _ a (row-there i (omega arith)) (row-there (i + 1) (omega arith));
             staying = λ i a b. w .staying i _ _ _ _ a b (row-there (w .last) most) (row-there i b);
           })
+
+  -- each of the 352 rows is there, and as the table has it
+  module _ (d : Described s) where
+    one-passes : oneTable cs ≡ true
+    one-passes = one-if (d .frames) (d .one-table)
+
+    parts-pass : eachOnce (partsIn cs) ≡ true
+    parts-pass = parts-if (d .frames) (d .parts)
+
+    pub each-row : (r : ℕ) → r ≤ 351 → Row s r (level table r) (volume table r)
+    each-row = row-there (d .frames) one-passes parts-pass
+
+    pub row-once : {r l v : ℕ} → Row s r l v → (r ≤ 351) × (level table r ≡ l) × (volume table r ≡ v)
+    row-once row =
+        let i = d .parts .inside (row .frame) (row .inside) in
+        let (a, b) = row-is (d .frames) one-passes parts-pass row in
+        (omega (arith, row .part), a, b)
 
   -- ---- what the number says
 

@@ -6,8 +6,9 @@ pub mod Gathering
 pub mod Refusals
 pub mod Reading
 pub mod Checking
-pub mod Accepted
 pub mod Described
+pub mod Accepted
 pub mod Served
 pub mod Answers
 pub mod Written
+pub mod Capitals

@@ -1,5 +1,5 @@
--- Rows that rise up to some row and then stay: there is one such row, which the code finds by going up as long as they rise; such rows never fall, and at
--- the level of each of them the volume is its own. Assumes nothing.
+-- Rows that rise up to some row and then stay: if there is such a row, it is the one that the code finds by going up as long as they rise; such rows never
+-- fall, and at the level of each of them the volume is its own. Assumes nothing.
 use mathlib.Core.Path.{_≡_, refl, sym, _∙_}
 use mathlib.Core.Logic.{_≢_}
 use mathlib.Core.List.{List}

@@ -80,7 +80,7 @@ written-file fs eleven h p =
     let short : length (flatten fs) ≤ 4096 = omega (arith, most-bytes fs h) in
     all-pass-0 (flatten fs) (rw (e, le-leb (length (flatten fs)) 4096 short, eq-eqb (length fs) 11 eleven) h, rw e p)
 
--- each is a byte of the eleven contents
+-- contents that are made of bytes
 abbrev AllBytes : List (List ℕ) → Type 0
 AllBytes cs = (k : ℕ) → k < length cs → Bytes (getD cs k [])
 

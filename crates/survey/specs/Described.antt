@@ -1,5 +1,5 @@
--- A table file as a surveyor would describe it, without a checker's tests (document 02, request 10): frames, parts and rows by their places. Frames count
--- from 0 to 10 and rows from 0 to 351 here. Assumes nothing.
+-- A table file as a surveyor would describe it (document 02, request 10): frames, parts and rows by their places. Frames count from 0 to 10 and rows from 0
+-- to 351 here. Assumes nothing.
 use mathlib.Core.Path.{_≡_}
 use mathlib.Core.Logic.{_≢_}
 use mathlib.Core.List.{List, []}
@@ -54,14 +54,15 @@ pub record OneTable (s : List ℕ) : Type 0 where
 
 -- ---- its parts
 
--- parts 1..11, and none twice; a law says that each is then there
+-- parts 1..11, and none twice; with the frames that makes each of them there, which is a law
 pub record Parts (s : List ℕ) : Type 0 where
   pub inside : (k : ℕ) → k < 11 → (1 ≤ partAt s k) × (partAt s k ≤ 11)
   pub once : (j k : ℕ) → j < k → k < 11 → partAt s j ≢ partAt s k
 
 -- ---- its rows
 
--- row r of the table has level l and volume v: it is one of the 32 rows of a frame, that of part 1 for rows 0..31, of part 2 for the next 32, and so on
+-- row r of the table has level l and volume v: it is one of the 32 rows of a frame, that of part 1 for rows 0..31, of part 2 for the next 32, and so on.
+-- Where frames, table and parts are as they should be, each of the 352 is there, and once: a law too
 pub record Row (s : List ℕ) (r l v : ℕ) : Type 0 where
   pub frame : ℕ
   pub inside : frame < 11

@@ -1,5 +1,5 @@
--- When the rows of a table are those of a tank (document 02, request 10): they rise up to some row, and all later rows repeat it. Rows count from 0, so
--- that row 352 is row 351 here. Assumes nothing.
+-- When the rows of a table rise up to some row, and all later ones repeat it (document 02, request 10). Rows count from 0, so that row 352 is row 351 here.
+-- Assumes nothing.
 use mathlib.Core.Path.{_≡_}
 use mathlib.Core.List.{List}
 use mathlib.Core.Bool.{Bool, true, false, _&&_}

@@ -21,9 +21,10 @@ pub record Sends (s : List ℕ) (xs : List Call) : Type 0 where
 unfoldable pub answerBy : List ℕ → ℕ → Quantity
 answerBy rows x = judged unanswered (check 14 (covers rows x) ∷ []) (answered rows x)
 
--- the numbers and replies that the calls were given, and the image that they left: each was served, the block holds all eleven parts of the file's table,
+-- of calls, the numbers and replies that they were given, and the image that they left: each was served, the block holds all eleven parts of the file's table,
 -- and answers every question about it by the file's own rows
-pub record Loaded (s : List ℕ) (rs : List (ℕ × List ℕ)) (m : List ℕ) : Type 0 where
+pub record Loaded (s : List ℕ) (xs : List Call) (rs : List (ℕ × List ℕ)) (m : List ℕ) : Type 0 where
+  pub all-answered : length rs ≡ length xs
   pub served : (i : ℕ) → i < length rs → getD rs i (0, []) .0 ≡ 0
   pub held : heldParts current m (tableIn (contentsIn s)) ≡ record { number = 0; parts = 11; missing = 0 }
   pub answers : (x : ℕ) → quantityAt current m (tableIn (contentsIn s)) x ≡ answerBy (tableSent (contentsIn s)) x

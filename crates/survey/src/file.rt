@@ -8,7 +8,7 @@ ghost use mathlib.Core.Path.{_≡_};
 ghost use lib.ListN.{length};
 ghost use Rattle.survey.specs.File.{fileNumber};
 
-// Eleven frames have at most 2,959 bytes, so that no longer file passes the check behind this one either: the limit says how much is read in vain.
+// Eleven frames have at most 2,959 bytes, so that a file longer than this fails the count of its frames too: the limit says how much is read in vain.
 const FILE_MOST: usize = 4096;
 
 const FRAMES: usize = 11;
