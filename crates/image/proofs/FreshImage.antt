@@ -3,17 +3,16 @@ use mathlib.Core.Path.{_≡_, refl, sym, ap, _∙_}
 use mathlib.Core.Logic.{_≢_}
 use mathlib.Core.List.{List, [], _∷_, _++_, append-nil}
 use mathlib.Core.Bool.{true}
-use Prim.Native.Nat.{ℕ, _+_, _%_, _≤_, _<_}
-use native.Mathlib.Nat.{div-eq-of-lt}
+use Prim.Native.Nat.{ℕ, _+_, _≤_, _<_}
 use native.Mathlib.Omega.{arith}
 use lib.ListN.{length, getD, drop, set, drop-of-length-le}
-use lib.Pow.{pow-pos}
 use borrow.Author.Tests.{eq-eqb, ne-eqb}
 use borrow.Author.Fill.{fill-more}
 use Rattle.laws.specs.Bytes.{slice, zeros, wordAt}
 use Rattle.laws.specs.Checks.{judged}
 use Rattle.laws.specs.Bits.{bit, onesIn}
 use Rattle.laws.proofs.Bytes.{length-zeros, length-lay, lay-at, lay-out, lay-is, slice-lay, zeros-at}
+use Rattle.laws.proofs.Bits.{bit-none}
 use Rattle.image.specs.declared.cell.Cell.the-variants.{Errors}
 use Rattle.image.specs.declared.version.Version.{Version}
 use Rattle.image.specs.declared.version.Version.the-variants.{V1, V2}
@@ -73,7 +72,7 @@ module _ (v : Version) (a : ℕ) where
   word-none k = rw (rest-at (wordOffset k) (omega arith), rest-at (wordOffset k + 1) (omega arith))
 
   pub fresh-bit : (k q : ℕ) → bit (tableWord (fresh v a) k) q ≡ 0
-  fresh-bit k q = rw (word-none k) (ap (λ (x : ℕ). x % 2) (div-eq-of-lt (pow-pos q)))
+  fresh-bit k q = rw (word-none k) (bit-none q)
 
   module _ (some : a ≢ 0) where
     mark-fresh : markOk v (fresh v a) ≡ true

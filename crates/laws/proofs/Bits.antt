@@ -2,7 +2,7 @@
 use mathlib.Core.Path.{_≡_, refl, sym, ap, ap₂, _∙_, subst}
 use mathlib.Core.Logic.{_≢_, _⊎_, inl, inr, ⊎-elim}
 use Prim.Native.Nat.{ℕ, zero, suc, _+_, _-_, _*_, _/_, _%_, _^_, _≤_, _<_}
-use native.Mathlib.Nat.{mod-lt, div-eq-of-lt, div-self, div-one, one-mul, zero-mul, pow-suc}
+use native.Mathlib.Nat.{mod-lt, zero-div, div-eq-of-lt, div-self, div-one, one-mul, zero-mul, pow-suc}
 use native.Mathlib.Decide.{ℕ-discrete, decLt}
 use native.Mathlib.Numerals.{add-one}
 use native.Mathlib.Omega.{arith}
@@ -147,6 +147,36 @@ ones-with (suc n) w k l = go (ℕ-discrete k n) (λ m. ones-with n w k m)
         there : bit w k ≡ 1 → bit (withBit w k) n + onesIn n (withBit w k) ≡ bit w n + onesIn n w + (1 - bit w k)
         there z = omega (arith, last, same, below n (omega arith))
     go (no e) ih = omega (arith, bit-kept w k n e, ih (omega arith))
+
+-- 0 has none
+pub bit-none : (k : ℕ) → bit 0 k ≡ 0
+bit-none k = ap (λ (x : ℕ). x % 2) (zero-div (2 ^ k))
+
+pub ones-none : (n : ℕ) → onesIn n 0 ≡ 0
+unfolding onesIn
+ones-none zero = refl
+ones-none (suc n) = omega (arith, bit-none n, ones-none n)
+
+-- n of n are all of them
+ones-most : (n w : ℕ) → onesIn n w ≤ n
+unfolding onesIn
+ones-most zero w = omega arith
+ones-most (suc n) w = let b : bit w n < 2 = mod-lt (w / 2 ^ n) (lit< tt) in omega (arith, ones-most n w)
+
+pub ones-all : (n w : ℕ) → onesIn n w ≡ n → (k : ℕ) → k < n → bit w k ≡ 1
+unfolding onesIn
+ones-all zero w e k l = absurd (let z : ⊥ = omega arith in z)
+ones-all (suc n) w e k l = go (bit-cases w n) (ℕ-discrete k n) (λ f. ones-all n w f k)
+  where
+    go : (bit w n ≡ 0) ⊎ (bit w n ≡ 1) → Dec (k ≡ n) → (onesIn n w ≡ n → k < n → bit w k ≡ 1) → bit w k ≡ 1
+    go (inl z) d ih = absurd (let f : ⊥ = omega (arith, ones-most n w) in f)
+    go (inr o) (yes d) ih = rw d o
+    go (inr o) (no d) ih = ih (omega arith) (omega arith)
+
+pub all-ones : (n w : ℕ) → ((k : ℕ) → k < n → bit w k ≡ 1) → onesIn n w ≡ n
+unfolding onesIn
+all-ones zero w h = refl
+all-ones (suc n) w h = omega (arith, h n (omega arith), all-ones n w (λ k l. h k (omega arith)))
 
 -- ---- the lowest bit that is not set
 

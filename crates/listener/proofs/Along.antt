@@ -16,10 +16,6 @@ module _ {S F O : Type 0} (step : S → F → O × S) where
   final-append s [] q = refl
   final-append s (f ∷ p) q = final-append (step s f .1) p q
 
-  pub length-outcomes : (s : S) (fs : List F) → length (outcomes step s fs) ≡ length fs
-  length-outcomes s [] = refl
-  length-outcomes s (f ∷ fs) = ap suc (length-outcomes (step s f .1) fs)
-
   -- Inv p s: s is the state after p; Out p o: o is the outcome of the last of p
   module _ (Inv : List F → S → Type 0) (Out : List F → O → Type 0)
       (each : (p : List F) (s : S) (f : F) → Inv p s → Out (p ++ (f ∷ [])) (step s f .0) × Inv (p ++ (f ∷ [])) (step s f .1)) where

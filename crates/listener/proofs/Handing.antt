@@ -13,6 +13,7 @@ use lib.Seq.{ext-getD, take-all, getD-at}
 use Rattle.laws.specs.Checks.{among, every}
 use Rattle.laws.proofs.Tests.{never}
 use Rattle.reorder.specs.Reorder.{outcomes, final}
+use Rattle.reorder.proofs.Readings.{length-outcomes}
 use Rattle.listener.specs.declared.Listener.{Listener}
 use Rattle.listener.specs.declared.Listened.{Listened}
 use Rattle.listener.specs.Listening.{listened}
@@ -21,7 +22,7 @@ use Rattle.listener.proofs.Steps.{starts-afresh, room-stays}
 use Rattle.listener.proofs.Shapes.{among-append, not-first, not-one, since-later, since-on, Begun, too-long, frame-is, frame-whole, well-more, begun-on}
 use Rattle.listener.proofs.Shapes.{unended-none, since-frame, since-start, start-none}
 use Rattle.listener.proofs.Gathering.{Holds, holds-waits, holds-first, After, ends, goes-on, drops, after, waits-stays}
-use Rattle.listener.proofs.Along.{outcomes-append, length-outcomes, left-after, told-at}
+use Rattle.listener.proofs.Along.{outcomes-append, left-after, told-at}
 
 -- ---- before any 3Ah
 

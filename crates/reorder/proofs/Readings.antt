@@ -12,6 +12,11 @@ getD-pick e l [] k h = absurd (not-suc-le-zero h)
 getD-pick e l (i ∷ o) zero h = refl
 getD-pick e l (i ∷ o) (suc k) h = getD-pick e l o k (le-of-suc-le-suc h)
 
+-- each of a list has an outcome
+pub length-outcomes : {S F O : Type 0} (step : S → F → O × S) (s : S) (fs : List F) → length (outcomes step s fs) ≡ length fs
+length-outcomes step s [] = refl
+length-outcomes step s (f ∷ fs) = ap suc (length-outcomes step (step s f .1) fs)
+
 -- what is served k-th has the outcome that it has at its place in the list
 pub each-outcome : {S F O : Type 0} (step : S → F → O × S) (e : O) (s : S) (fs gs : List F) (o : List ℕ) → SameService step e s fs gs o
     → (k : ℕ) → k < length o → getD (outcomes step s gs) k e ≡ getD (outcomes step s fs) (place o k) e

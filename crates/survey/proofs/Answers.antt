@@ -1,18 +1,18 @@
 -- From the file to the answer (document 02, request 10): an accepted file's frames, sent unsealed in any order to a fresh block of its address, are all served;
 -- then all eleven parts are held, and every question about the table is answered by the file's rows, so never 12 and never 13. By the promises alone.
 -- Assumes nothing.
-use mathlib.Core.Path.{_≡_, refl, sym, ap, _∙_}
+use mathlib.Core.Path.{_≡_, sym, ap, _∙_}
 use mathlib.Core.Logic.{_≢_}
 use mathlib.Core.List.{List, [], _∷_}
 use mathlib.Core.Bool.{Bool, true, false}
-use Prim.Native.Nat.{ℕ, zero, suc, _≤_, _<_}
+use Prim.Native.Nat.{ℕ, _≤_, _<_}
 use native.Mathlib.Omega.{arith}
 use lib.ListN.{length, getD, length-map, List·getD-map}
 use borrow.Author.Tests.{eqb-true}
-use Rattle.laws.specs.Bits.{bit, onesIn}
 use Rattle.laws.specs.Checks.{check, judged}
-use Rattle.reorder.specs.Reorder.{outcomes, final, place, pick, Reorders}
-use Rattle.reorder.proofs.Readings.{getD-pick}
+use Rattle.laws.proofs.Bits.{all-ones}
+use Rattle.reorder.specs.Reorder.{final, place, pick, Reorders}
+use Rattle.reorder.proofs.Readings.{getD-pick, length-outcomes}
 use Rattle.text.specs.Cut.{pieces}
 use Rattle.image.specs.Version.{current}
 use Rattle.image.specs.Cell.{tableIndex}
@@ -56,16 +56,6 @@ module _ (s : List ℕ) (xs : List Call) (o : List ℕ) (re : Reorders 11 o) (fr
 
 -- ---- what the image then says
 
--- a word all of whose n lowest bits are set has n of them
-full-ones : (n w : ℕ) → ((k : ℕ) → k < n → bit w k ≡ 1) → onesIn n w ≡ n
-unfolding onesIn
-full-ones zero w h = refl
-full-ones (suc n) w h = omega (arith, h n (omega arith), full-ones n w (λ k l. h k (omega arith)))
-
-many : {S F O : Type 0} (step : S → F → O × S) (s : S) (fs : List F) → length (outcomes step s fs) ≡ length fs
-many step s [] = refl
-many step s (f ∷ fs) = ap suc (many step (step s f .1) fs)
-
 module _ (s : List ℕ) (z : fileNumber s ≡ 0) where
   abbrev cs : List (List ℕ)
   cs = contentsIn s
@@ -90,7 +80,7 @@ module _ (s : List ℕ) (z : fileNumber s ≡ 0) where
     unfolding heldOf whole
     held-all =
         held-is current after t usable-after (table-one s z)
-        ∙ rw (full-ones 11 w (bits-set s z current m good xs all), eqb-true (lowestMissing w) 0 (whole-loaded s z current m good xs all))
+        ∙ rw (all-ones 11 w (bits-set s z current m good xs all), eqb-true (lowestMissing w) 0 (whole-loaded s z current m good xs all))
       where
         w : ℕ
         w = tableWord after (tableIndex t)
@@ -106,8 +96,8 @@ module _ (s : List ℕ) (z : fileNumber s ≡ 0) where
     file-loads ran =
         let (p, q) = ran-is Unsealed ran in
         rw (p, q) (record {
-          all-answered = many (step (heard Unsealed) current) m xs;
-          served = λ i l. each-served s z current m good xs all i (omega (arith, many (step (heard Unsealed) current) m xs));
+          all-answered = length-outcomes (step (heard Unsealed) current) m xs;
+          served = λ i l. each-served s z current m good xs all i (omega (arith, length-outcomes (step (heard Unsealed) current) m xs));
           held = held-all;
           answers = answered-all;
         })

@@ -25,29 +25,29 @@ unfolding elevenFrames
 too-long-is-17 s l = no-frames-is-17 s (rw (lt-leb (length s) 4096 l))
 
 -- what is at hand once the file was read: it is short enough, its first frame's address and table, what its frames say
-pub record Gone (s old rows : List ℕ) (f : First) (r : Read) : Type 0 where
+pub record Known (s old rows : List ℕ) (f : First) (r : Read) : Type 0 where
   pub short : length s ≤ 4096
   pub opens : Opens s f
   pub reads : Reads (f .address) (f .table) s old r rows
 
 -- and once 17 and 18 passed
 pub record Tabled (s old rows : List ℕ) (f : First) (r : Read) : Type 0 where
-  pub gone : Gone s old rows f r
+  pub known : Known s old rows f r
   pub eleven : r .frames ≡ 11
   pub one : r .sheet .one ≡ true
   pub address : f .address ≢ 0
   pub table : isTable (f .table) ≡ true
 
 module _ {s old rows : List ℕ} {f : First} {r : Read} where
-  pub gone : length s ≤ 4096 → Opens s f → Reads (f .address) (f .table) s old r rows → Gone s old rows f r
-  gone short opens reads = record { short = short; opens = opens; reads = reads }
+  pub known : length s ≤ 4096 → Opens s f → Reads (f .address) (f .table) s old r rows → Known s old rows f r
+  known short opens reads = record { short = short; opens = opens; reads = reads }
 
-  pub tabled : Gone s old rows f r → r .frames ≡ 11 → r .sheet .one ≡ true → f .address ≢ 0 → isTable (f .table) ≡ true → Tabled s old rows f r
-  tabled h eleven one address table = record { gone = h; eleven = eleven; one = one; address = address; table = table }
+  pub tabled : Known s old rows f r → r .frames ≡ 11 → r .sheet .one ≡ true → f .address ≢ 0 → isTable (f .table) ≡ true → Tabled s old rows f r
+  tabled h eleven one address table = record { known = h; eleven = eleven; one = one; address = address; table = table }
 
   -- ---- 17
 
-  pub frames-wrong : Gone s old rows f r → r .frames ≢ 11 → fileNumber s ≡ 17
+  pub frames-wrong : Known s old rows f r → r .frames ≢ 11 → fileNumber s ≡ 17
   unfolding elevenFrames
   frames-wrong h n = no-frames-is-17 s (rw (le-leb (length s) 4096 (h .short)) (go (all isFrame (pieces s)) refl (h .reads .frames-are)))
     where
@@ -56,7 +56,7 @@ module _ {s old rows : List ℕ} {f : First} {r : Read} where
       go true e k = rw (ne-eqb (length (pieces s)) 11 (λ i. n (k ∙ i)))
       go false e k = rw (e, and-false)
 
-  module _ (h : Gone s old rows f r) (eleven : r .frames ≡ 11) where
+  module _ (h : Known s old rows f r) (eleven : r .frames ≡ 11) where
     frames : (all isFrame (pieces s) ≡ true) × (length (pieces s) ≡ 11)
     frames = go (all isFrame (pieces s)) refl (sym eleven ∙ h .reads .frames-are)
       where
@@ -98,22 +98,22 @@ module _ {s old rows : List ℕ} {f : First} {r : Read} where
 
   module _ (k : Tabled s old rows f r) where
     both : elevenFrames s ≡ true
-    both = passed-17 (k .gone) (k .eleven)
+    both = passed-17 (k .known) (k .eleven)
 
     passed-18 : oneTable (contentsIn s) ≡ true
     unfolding oneTable
     passed-18 =
-        let a : addressIn (contentsIn s) ≢ 0 = λ e. k .address (address-is (k .gone) (k .eleven) ∙ e) in
-        rw (ne-eqb (addressIn (contentsIn s)) 0 a, sym (ap isTable (table-is (k .gone) (k .eleven))) ∙ k .table) (sym (all-sent (k .gone) (k .eleven)) ∙ k .one)
+        let a : addressIn (contentsIn s) ≢ 0 = λ e. k .address (address-is (k .known) (k .eleven) ∙ e) in
+        rw (ne-eqb (addressIn (contentsIn s)) 0 a, sym (ap isTable (table-is (k .known) (k .eleven))) ∙ k .table) (sym (all-sent (k .known) (k .eleven)) ∙ k .one)
 
     all-send : all (sends (f .address) (f .table)) (contentsIn s) ≡ true
-    all-send = rw (address-is (k .gone) (k .eleven), table-is (k .gone) (k .eleven)) (sym (all-sent (k .gone) (k .eleven)) ∙ k .one)
+    all-send = rw (address-is (k .known) (k .eleven), table-is (k .known) (k .eleven)) (sym (all-sent (k .known) (k .eleven)) ∙ k .one)
 
     -- ---- 19
 
     told : r .sheet .once ≡ eachOnce (partsIn (contentsIn s))
     told =
-        ap (λ (g : Gathered). g .sheet .once) (k .gone .reads .gathers (frames (k .gone) (k .eleven) .0))
+        ap (λ (g : Gathered). g .sheet .once) (k .known .reads .gathers (frames (k .known) (k .eleven) .0))
         ∙ once-tells (f .address) (f .table) (contentsIn s) all-send old
 
     pub part-again : r .sheet .once ≡ false → fileNumber s ≡ 19
@@ -125,8 +125,8 @@ module _ {s old rows : List ℕ} {f : First} {r : Read} where
       rows-are : rows ≡ tableSent (contentsIn s)
       unfolding contentsIn
       rows-are =
-          let p = frames (k .gone) (k .eleven) in
-          ap (λ (g : Gathered). g .rows) (k .gone .reads .gathers (p .0))
+          let p = frames (k .known) (k .eleven) in
+          ap (λ (g : Gathered). g .rows) (k .known .reads .gathers (p .0))
           ∙ table-gathered (f .address) (f .table) (contentsIn s) all-send (length-map (pieces s) _ ∙ p .1) (sym told ∙ once) old long
 
       pub rows-fall : risesThenStays rows ≡ false → fileNumber s ≡ 20

@@ -36,12 +36,12 @@ length-laid r [] = refl
 length-laid r (c ∷ cs) = length-laid _ cs ∙ length-lay r (128 * (byte c 4 - 1)) (drop 4 c)
 
 -- all are whole parts, from 1 to 11
-pub record Parts (a t : ℕ) (cs : List (List ℕ)) : Type 0 where
-  pub whole : all (sends a t) cs ≡ true
-  pub inside : all (within 1 11) (partsIn cs) ≡ true
+record WholeParts (a t : ℕ) (cs : List (List ℕ)) : Type 0 where
+  whole : all (sends a t) cs ≡ true
+  inside : all (within 1 11) (partsIn cs) ≡ true
 
 module _ (a t : ℕ) where
-  module _ (c : List ℕ) (cs : List (List ℕ)) (h : Parts a t (c ∷ cs)) where
+  module _ (c : List ℕ) (cs : List (List ℕ)) (h : WholeParts a t (c ∷ cs)) where
     first-long : length (drop 4 c) ≡ 128
     unfolding all
     first-long = omega (arith, length-drop 4 c, sent-is a t c (and-both _ _ (h .whole) .0) .long)
@@ -50,7 +50,7 @@ module _ (a t : ℕ) where
     unfolding all partsIn
     first-inside = within-is 1 11 (byte c 4) (and-both _ _ (h .inside) .0)
 
-    others : Parts a t cs
+    others : WholeParts a t cs
     unfolding all partsIn
     others =
         record {
@@ -74,7 +74,7 @@ module _ (a t : ℕ) where
         same i (x, y) (z, w) = omega (arith, first-inside)
 
   -- a part that is not among them stays
-  laid-stays : (r : List ℕ) (cs : List (List ℕ)) → Parts a t cs → (p : ℕ) → 1 ≤ p → among p (partsIn cs) ≡ false → partOf p (laid r cs) ≡ partOf p r
+  laid-stays : (r : List ℕ) (cs : List (List ℕ)) → WholeParts a t cs → (p : ℕ) → 1 ≤ p → among p (partsIn cs) ≡ false → partOf p (laid r cs) ≡ partOf p r
   unfolding laid partsIn among
   laid-stays r [] h p l n = refl
   laid-stays r (c ∷ cs) h p l n =
@@ -82,7 +82,7 @@ module _ (a t : ℕ) where
       laid-stays _ cs (others c cs h) p l (q .1) ∙ other c cs h r p l (eqb-false p (byte c 4) (q .0))
 
   -- one that is among them once has what was sent for it
-  laid-holds : (r : List ℕ) → length r ≡ 1408 → (cs : List (List ℕ)) → Parts a t cs → distinct (partsIn cs) ≡ true
+  laid-holds : (r : List ℕ) → length r ≡ 1408 → (cs : List (List ℕ)) → WholeParts a t cs → distinct (partsIn cs) ≡ true
       → (p : ℕ) → 1 ≤ p → among p (partsIn cs) ≡ true → partOf p (laid r cs) ≡ drop 4 (contentsWith p cs)
   unfolding laid partsIn among distinct contentsWith
   laid-holds r long [] h d p l i = absurd (never i)

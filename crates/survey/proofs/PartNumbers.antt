@@ -1,20 +1,19 @@
 -- The numbers of parts, as the code goes through them: each from 1 to 11 whose bit is not set yet, and then it is set. That is so exactly where all are from
 -- 1 to 11 and none is there twice; and eleven such numbers are 1 to 11, since each sets one more of eleven bits. Assumes nothing.
-use mathlib.Core.Path.{_≡_, refl, sym, ap, _∙_}
+use mathlib.Core.Path.{_≡_, refl, sym, _∙_}
 use mathlib.Core.Logic.{_⊎_, inl, inr}
 use mathlib.Core.List.{List, [], _∷_}
 use mathlib.Core.Bool.{Bool, true, false, not, _&&_, _||_, or-true}
-use Prim.Native.Nat.{ℕ, zero, suc, _+_, _-_, _^_, _/_, _%_, _≤_, _<_}
-use native.Mathlib.Nat.{zero-div, mod-lt}
+use Prim.Native.Nat.{ℕ, _+_, _-_, _≤_, _<_}
 use native.Mathlib.Decide.{ℕ-discrete}
 use native.Mathlib.Omega.{arith}
 use lib.ListN.{length}
-use lib.Dec.{eqb, lit<}
+use lib.Dec.{eqb}
 use borrow.Author.Tests.{eqb-true, eq-eqb, ne-eqb, not-true}
 use Rattle.laws.specs.Bits.{bit, withBit, onesIn}
 use Rattle.laws.specs.Checks.{within, all, among, distinct}
 use Rattle.laws.proofs.Tests.{never, and-both, or-either, both-ways, within-is, within-in, within-below, within-above, all-among}
-use Rattle.laws.proofs.Bits.{bit-cases, bit-set, bit-kept, ones-with}
+use Rattle.laws.proofs.Bits.{bit-cases, bit-none, bit-set, bit-kept, ones-with, ones-none, ones-all}
 use Rattle.survey.specs.File.{eachOnce}
 use Rattle.survey.specs.Gather.{isNew}
 
@@ -95,9 +94,6 @@ all-new-if w (p ∷ ps) a d u =
         let k = within-is 1 11 q (all-among (within 1 11) q ps inside i) in
         bit-kept w (p - 1) (q - 1) (λ e. let f : p ≡ q = omega arith in never (sym none ∙ rw f i)) ∙ u q (rw (i, or-true))
 
-bit-none : (k : ℕ) → bit 0 k ≡ 0
-bit-none k = ap (λ (x : ℕ). x % 2) (zero-div (2 ^ k))
-
 -- what the code finds is what check 19 asks
 pub new-once : (ps : List ℕ) → allNew 0 ps ≡ eachOnce ps
 unfolding eachOnce
@@ -121,26 +117,6 @@ counted w (p ∷ ps) h =
     let n = new-is w p (a .0) in
     omega (arith, counted (withBit w (p - 1)) ps (a .1), ones-with 11 w (p - 1) (omega arith), n .2)
 
-none-in : (n : ℕ) → onesIn n 0 ≡ 0
-unfolding onesIn
-none-in zero = refl
-none-in (suc n) = omega (arith, bit-none n, none-in n)
-
-ones-most : (n w : ℕ) → onesIn n w ≤ n
-unfolding onesIn
-ones-most zero w = omega arith
-ones-most (suc n) w = let b : bit w n < 2 = mod-lt (w / 2 ^ n) (lit< tt) in omega (arith, ones-most n w)
-
-all-set : (n w : ℕ) → onesIn n w ≡ n → (k : ℕ) → k < n → bit w k ≡ 1
-unfolding onesIn
-all-set zero w e k l = absurd (omega arith)
-all-set (suc n) w e k l = go (bit-cases w n) (ℕ-discrete k n) (λ f. all-set n w f k)
-  where
-    go : (bit w n ≡ 0) ⊎ (bit w n ≡ 1) → Dec (k ≡ n) → (onesIn n w ≡ n → k < n → bit w k ≡ 1) → bit w k ≡ 1
-    go (inl z) d ih = absurd (let f : ⊥ = omega (arith, ones-most n w) in f)
-    go (inr o) (yes d) ih = rw d o
-    go (inr o) (no d) ih = ih (omega arith) (omega arith)
-
 -- a bit that is set was set before, or by its part
 set-by : (w : ℕ) (ps : List ℕ) → all (within 1 11) ps ≡ true → (p : ℕ) → 1 ≤ p → bit (withAll w ps) (p - 1) ≡ 1 → (bit w (p - 1) ≡ 1) ⊎ (among p ps ≡ true)
 unfolding withAll all among
@@ -162,7 +138,7 @@ each-is-there ps eleven h p a b = go (set-by 0 ps (all-new-is 0 ps new .0) p a s
     new = new-once ps ∙ h
 
     set : bit (withAll 0 ps) (p - 1) ≡ 1
-    set = all-set 11 (withAll 0 ps) (omega (arith, counted 0 ps new, none-in 11)) (p - 1) (omega arith)
+    set = ones-all 11 (withAll 0 ps) (omega (arith, counted 0 ps new, ones-none 11)) (p - 1) (omega arith)
 
     go : (bit 0 (p - 1) ≡ 1) ⊎ (among p ps ≡ true) → among p ps ≡ true
     go (inl e) = absurd (omega (arith, bit-none (p - 1)))

@@ -18,6 +18,7 @@ use Rattle.text.proofs.Pieces.{Ended, here, later, Cut, none, ended, pieces-joi
 use Rattle.frame.specs.Digits.{isDigit, allDigits}
 use Rattle.frame.specs.Apart.{inner, contentsOf, frameChecks}
 use Rattle.frame.specs.Built.{frameOf}
+use Rattle.frame.proofs.Body.{length-contents}
 use Rattle.frame.proofs.Passing.{passed-length, passed-digits}
 use Rattle.frame.proofs.RoundTrip.{contents-frame, frame-passes, frame-is}
 use Rattle.image.specs.Cell.{isTable}
@@ -27,8 +28,8 @@ use Rattle.survey.specs.Rows.{risesThenStays}
 use Rattle.survey.specs.File.{isFrame, contentsIn, addressIn, tableIn, sends, partsIn, contentsWith, rowsTo, tableSent}
 use Rattle.survey.specs.File.{elevenFrames, oneTable, eachOnce, tableChecks, fileNumber}
 use Rattle.survey.proofs.Rising.{top-if}
-use Rattle.survey.proofs.Frames.{sent-is, table-asks}
-use Rattle.survey.proofs.Refusals.{all-pass-0}
+use Rattle.survey.proofs.Frames.{sent-is, frames-ask, table-asks}
+use Rattle.survey.proofs.Refusals.{passes-all, all-pass-0}
 
 -- ---- frames put one behind the other are cut where they were put together
 
@@ -70,6 +71,25 @@ most-bytes (f ∷ fs) h =
 
 pub limit-idle : (s : List ℕ) → length (pieces s) ≡ 11 → all isFrame (pieces s) ≡ true → length s ≤ 2959
 limit-idle s eleven h = omega (arith, most-bytes (pieces s) h, ap length (pieces-join s))
+
+-- frames that send parts are as long as frames can be, so a file that passes has that many bytes
+sent-bytes : (a t : ℕ) (fs : List (List ℕ)) → all isFrame fs ≡ true → all (sends a t) (map contentsOf fs) ≡ true → length (flatten fs) ≡ 269 * length fs
+unfolding flatten all
+sent-bytes a t [] h k = omega arith
+sent-bytes a t (f ∷ fs) h k =
+    let p = and-both (sends a t (contentsOf f)) (all (sends a t) (map contentsOf fs)) k in
+    let l = passed-length f (first-passes f fs h) in
+    let n = length-contents f (l .0) in
+    let c = sent-is a t (contentsOf f) (p .0) .long in
+    omega (arith, length-append f (flatten fs), sent-bytes a t fs (others-are f fs h) (p .1))
+
+pub accepted-long : (s : List ℕ) → fileNumber s ≡ 0 → length s ≡ 2959
+unfolding contentsIn
+accepted-long s z =
+    let p = passes-all s z in
+    let (short, eleven, h) = frames-ask s (p .0) in
+    let cs = contentsIn s in
+    omega (arith, sent-bytes (addressIn cs) (tableIn cs) (pieces s) h (table-asks cs (p .1 .0) .2), ap length (pieces-join s))
 
 -- ---- eleven frames of a table
 

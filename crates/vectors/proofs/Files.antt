@@ -22,21 +22,21 @@ rowsFrom level volume r zero = []
 rowsFrom level volume r (suc n) = two (level r) ++ (two (volume r) ++ rowsFrom level volume (suc r) n)
 
 -- the frames of these parts, one behind the other
-unfoldable pub framesOf : ℕ → ℕ → (ℕ → ℕ) → (ℕ → ℕ) → List ℕ → List ℕ
-framesOf a t level volume [] = []
-framesOf a t level volume (p ∷ ps) = frameOf (a ∷ (59 ∷ (t ∷ (p ∷ rowsFrom level volume (32 * (p - 1)) 32)))) ++ framesOf a t level volume ps
+unfoldable pub framesBy : ℕ → ℕ → (ℕ → ℕ) → (ℕ → ℕ) → List ℕ → List ℕ
+framesBy a t level volume [] = []
+framesBy a t level volume (p ∷ ps) = frameOf (a ∷ (59 ∷ (t ∷ (p ∷ rowsFrom level volume (32 * (p - 1)) 32)))) ++ framesBy a t level volume ps
 
 -- ten parts, before the last frame of a file
 abbrev pub ten : List ℕ
 ten = 11 ∷ 10 ∷ 9 ∷ 8 ∷ 7 ∷ 6 ∷ 5 ∷ 4 ∷ 3 ∷ 2 ∷ []
 
 abbrev pub file : ℕ → ℕ → (ℕ → ℕ) → (ℕ → ℕ) → ℕ → List ℕ
-file a t level volume p = framesOf a t level volume (ten ++ (p ∷ []))
+file a t level volume p = framesBy a t level volume (ten ++ (p ∷ []))
 
 -- rows that rise to the last, in small letters; and rows that rise to row 101 with one volume, the others repeating it
 pub accepted : (fileNumber (map (λ c. cond (within 65 70 c) (c + 32) c) (file 171 12 (λ r. r) (λ r. r) 1)) ≡ 0)
     × (fileNumber (file 255 18 (λ r. min r 100) (λ r. 7) 1) ≡ 0)
-unfolding framesOf rowsFrom two fileNumber firstFailing judged elevenFrames isFrame pieces frameOf frameChecks lengthOk endsOk inner bodyOf contentsOf sumOk
+unfolding framesBy rowsFrom two fileNumber firstFailing judged elevenFrames isFrame pieces frameOf frameChecks lengthOk endsOk inner bodyOf contentsOf sumOk
     within all isDigit valueOf charOf charsOf bytesOf checksumOf sumOf slice contentsIn addressIn tableIn sends partsIn contentsWith rowsTo tableSent oneTable
     eachOnce isTable distinct among risesThenStays risesTo rises sameRow staysFrom every some wordAt
 accepted = (refl, refl)
@@ -44,7 +44,7 @@ accepted = (refl, refl)
 -- a byte behind the last frame; table 9; part 2 twice
 pub refused : (fileNumber (file 1 12 (λ r. r) (λ r. r) 1 ++ (10 ∷ [])) ≡ 17) × (fileNumber (file 1 9 (λ r. r) (λ r. r) 1) ≡ 18)
     × (fileNumber (file 1 12 (λ r. r) (λ r. r) 2) ≡ 19)
-unfolding framesOf rowsFrom two fileNumber firstFailing judged elevenFrames isFrame pieces frameOf frameChecks lengthOk endsOk inner bodyOf contentsOf sumOk
+unfolding framesBy rowsFrom two fileNumber firstFailing judged elevenFrames isFrame pieces frameOf frameChecks lengthOk endsOk inner bodyOf contentsOf sumOk
     within all isDigit valueOf charOf charsOf bytesOf checksumOf sumOf slice contentsIn addressIn tableIn sends partsIn contentsWith rowsTo tableSent oneTable
     eachOnce isTable distinct among risesThenStays risesTo rises sameRow staysFrom every some wordAt
 refused = (refl, refl, refl)
@@ -52,7 +52,7 @@ refused = (refl, refl, refl)
 -- each row twice, as stairs have it; a volume that goes on to rise behind the top level; row 352 alone fallen
 pub refused-20 : (fileNumber (file 1 12 (λ r. r / 2) (λ r. r / 2) 1) ≡ 20) × (fileNumber (file 1 12 (λ r. min r 100) (λ r. r) 1) ≡ 20)
     × (fileNumber (file 1 12 (λ r. r) (λ r. cond (eqb r 351) 349 r) 1) ≡ 20)
-unfolding framesOf rowsFrom two fileNumber firstFailing judged elevenFrames isFrame pieces frameOf frameChecks lengthOk endsOk inner bodyOf contentsOf sumOk
+unfolding framesBy rowsFrom two fileNumber firstFailing judged elevenFrames isFrame pieces frameOf frameChecks lengthOk endsOk inner bodyOf contentsOf sumOk
     within all isDigit valueOf charOf charsOf bytesOf checksumOf sumOf slice contentsIn addressIn tableIn sends partsIn contentsWith rowsTo tableSent oneTable
     eachOnce isTable distinct among risesThenStays risesTo rises sameRow staysFrom every some wordAt
 refused-20 = (refl, refl, refl)

@@ -3,7 +3,7 @@ use mathlib.Core.Path.{sym, _∙_}
 use borrow.Author.Needs.{needs}
 use borrow.Author.Tests.{not-true, not-false}
 use Rattle.image.proofs.Indices.{index-is, no-index}
-use Rattle.survey.proofs.Checking.{Gone, Tabled, too-long-is-17, gone, tabled, frames-wrong, stranger, address-0, no-table, part-again, rows-fall, rows-rise}
+use Rattle.survey.proofs.Checking.{Known, Tabled, too-long-is-17, known, tabled, frames-wrong, stranger, address-0, no-table, part-again, rows-fall, rows-rise}
 use Rattle.survey.proofs.file.check_with.Statement.{statement}
 use Rattle.survey.proofs.file.check_with.Tie as tie
 
@@ -12,11 +12,11 @@ read : (e : tie.Else2)
     → let r = e .before .before .before .before .before in
     let o = r .before .before in
     let a = o .before .before .before .before .args in
-    Gone (a .file .now) (a .rows .now) (r .read-all .last .1 .1 .1 .0) (o .first-of .result) (r .read-all .result)
+    Known (a .file .now) (a .rows .now) (r .read-all .last .1 .1 .1 .0) (o .first-of .result) (r .read-all .result)
 read e =
     let r = e .before .before .before .before .before in
     let o = r .before .before in
-    gone (o .before .if1 .left) (o .first-of .ensures) (r .read-all .ensures)
+    known (o .before .if1 .left) (o .first-of .ensures) (r .read-all .ensures)
 
 -- and once 18 did
 passed : (f : tie.Else5)
@@ -48,7 +48,7 @@ returns-2 : tie.Need-returns-2
 returns-2 c =
     let r = c .before .before .before .before .before in
     let o = r .before .before in
-    sym (frames-wrong (gone (o .before .if1 .left) (o .first-of .ensures) (r .read-all .ensures)) (c .if2 .taken))
+    sym (frames-wrong (known (o .before .if1 .left) (o .first-of .ensures) (r .read-all .ensures)) (c .if2 .taken))
 
 same-length-2 : tie.Need-same-length-2
 same-length-2 c = search needs
