@@ -59,12 +59,16 @@ apart-passed f out room p = apart-checked f out room ∙ judged-passed (refuse o
 -- ---- a frame that was read into a work array
 
 module _ {f w : List ℕ} {r : Answer} (d : ReadInto f r w) where
+  -- where the checks pass it is 0
+  pub read-0 : AllPass (frameChecks f) → r .number ≡ 0
+  read-0 p = ap (λ (a : Answer). a .number) (d .answer-is ∙ judged-passed _ (frameChecks f) _ p)
+
   -- a number that is not 0 is the answer of every reading of the checks
   pub read-refuses : (r .number ≡ 0 → ⊥) → (A : Type 0) (refusal : ℕ → A) (after : A) → judged refusal (frameChecks f) after ≡ refusal (r .number)
   read-refuses n = go (judge (frameChecks f))
     where
       go : Judged (frameChecks f) → (A : Type 0) (refusal : ℕ → A) (after : A) → judged refusal (frameChecks f) after ≡ refusal (r .number)
-      go (Checks.passed p) A refusal after = absurd (n (ap (λ (a : Answer). a .number) (d .answer-is ∙ judged-passed _ (frameChecks f) _ p)))
+      go (Checks.passed p) A refusal after = absurd (n (read-0 p))
       go (Checks.failed c i h) A refusal after = h A refusal after ∙ ap refusal (sym (ap (λ (a : Answer). a .number) (d .answer-is ∙ h Answer _ _)))
 
   -- and nothing is reported with it

@@ -7,7 +7,7 @@ use Prim.Native.Nat.{ℕ, _-_, _≤_, _<_}
 use native.Mathlib.Omega.{arith}
 use borrow.Author.Tests.{lt-ltb, le-ltb}
 use Rattle.laws.specs.Checks.{within}
-use Rattle.laws.proofs.Tests.{or-either, within-is, within-in, within-above}
+use Rattle.laws.proofs.Tests.{fails, or-either, within-is, within-in, within-above}
 use Rattle.image.specs.Cell.{isTable, tableIndex}
 
 pub table-indices : map tableIndex (1 ∷ 2 ∷ 3 ∷ 4 ∷ 5 ∷ 6 ∷ 7 ∷ 8 ∷ 11 ∷ 12 ∷ 13 ∷ 14 ∷ 15 ∷ 16 ∷ 17 ∷ 18 ∷ [])
@@ -69,8 +69,4 @@ module _ (t k : ℕ) (e : k ≡ cond (isTable t) (tableIndex t) 16) where
       go false f = let z : k ≡ 16 = rw f at e in absurd (omega arith)
 
   pub no-index : 16 ≤ k → isTable t ≡ false
-  no-index l = go (isTable t) refl
-    where
-      go : (b : Bool) → isTable t ≡ b → isTable t ≡ false
-      go true f = let z : k ≡ tableIndex t = rw f at e in let p = index-below t f in absurd (omega arith)
-      go false f = f
+  no-index l = fails (isTable t) (λ f. let z : k ≡ tableIndex t = rw f at e in let p = index-below t f in omega arith)

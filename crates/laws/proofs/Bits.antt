@@ -163,20 +163,20 @@ unfolding onesIn
 ones-most zero w = omega arith
 ones-most (suc n) w = let b : bit w n < 2 = mod-lt (w / 2 ^ n) (lit< tt) in omega (arith, ones-most n w)
 
-pub ones-all : (n w : ℕ) → onesIn n w ≡ n → (k : ℕ) → k < n → bit w k ≡ 1
+pub all-set-is : (n w : ℕ) → onesIn n w ≡ n → (k : ℕ) → k < n → bit w k ≡ 1
 unfolding onesIn
-ones-all zero w e k l = absurd (let z : ⊥ = omega arith in z)
-ones-all (suc n) w e k l = go (bit-cases w n) (ℕ-discrete k n) (λ f. ones-all n w f k)
+all-set-is zero w e k l = absurd (let z : ⊥ = omega arith in z)
+all-set-is (suc n) w e k l = go (bit-cases w n) (ℕ-discrete k n) (λ f. all-set-is n w f k)
   where
     go : (bit w n ≡ 0) ⊎ (bit w n ≡ 1) → Dec (k ≡ n) → (onesIn n w ≡ n → k < n → bit w k ≡ 1) → bit w k ≡ 1
     go (inl z) d ih = absurd (let f : ⊥ = omega (arith, ones-most n w) in f)
     go (inr o) (yes d) ih = rw d o
     go (inr o) (no d) ih = ih (omega arith) (omega arith)
 
-pub all-ones : (n w : ℕ) → ((k : ℕ) → k < n → bit w k ≡ 1) → onesIn n w ≡ n
+pub all-set-if : (n w : ℕ) → ((k : ℕ) → k < n → bit w k ≡ 1) → onesIn n w ≡ n
 unfolding onesIn
-all-ones zero w h = refl
-all-ones (suc n) w h = omega (arith, h n (omega arith), all-ones n w (λ k l. h k (omega arith)))
+all-set-if zero w h = refl
+all-set-if (suc n) w h = omega (arith, h n (omega arith), all-set-if n w (λ k l. h k (omega arith)))
 
 -- ---- the lowest bit that is not set
 

@@ -27,6 +27,11 @@ pub neither : (a b : Bool) → (a || b) ≡ false → (a ≡ false) × (b ≡ fa
 neither true b e = absurd (never (sym e))
 neither false b e = (refl, e)
 
+-- a test that cannot pass
+pub fails : (a : Bool) → ¬ (a ≡ true) → a ≡ false
+fails true n = absurd (n refl)
+fails false n = refl
+
 -- two tests that pass in the same cases
 pub both-ways : (a b : Bool) → (a ≡ true → b ≡ true) → (b ≡ true → a ≡ true) → a ≡ b
 both-ways true b f g = sym (f refl)

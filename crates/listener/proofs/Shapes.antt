@@ -12,7 +12,7 @@ use lib.Seq.{drop-append-le, split-at}
 use lib.Dec.{eqb}
 use borrow.Author.Tests.{le-leb, lt-leb, eq-eqb, ne-eqb, eqb-true, eqb-false, not-true}
 use Rattle.laws.specs.Checks.{among, every}
-use Rattle.laws.proofs.Tests.{never, and-both, neither, every-fails, every-at, every-same, every-next}
+use Rattle.laws.proofs.Tests.{never, and-both, neither, fails, every-fails, every-at, every-same, every-next}
 use Rattle.listener.specs.Handing.{endAt, wellFormed, since}
 
 -- ---- among the bytes of a line
@@ -186,10 +186,5 @@ module _ (f : List ℕ) (well : wellFormed f ≡ true) where
 
   -- only the whole is a frame
   pub start-none : (k : ℕ) → k < length f → wellFormed (take k f) ≡ false
-  start-none k h = go (wellFormed (take k f)) refl
-    where
-      go : (t : Bool) → wellFormed (take k f) ≡ t → wellFormed (take k f) ≡ false
-      go true e =
-          let n = rw (← split-at f k 0 h) at (frame-whole (take k f) e (getD f k 0) (drop (suc k) f)) in
-          absurd (never (sym n ∙ well))
-      go false e = e
+  start-none k h =
+      fails (wellFormed (take k f)) (λ e. never (sym (rw (← split-at f k 0 h) at (frame-whole (take k f) e (getD f k 0) (drop (suc k) f))) ∙ well))

@@ -1,70 +1,48 @@
--- What an accepted file is, in the shapes that sending it needs. Assumes nothing.
+-- What an accepted file is, in the shapes that sending it needs: by what the description says of it. Assumes nothing.
 use mathlib.Core.Path.{_≡_}
 use mathlib.Core.Logic.{_≢_}
-use mathlib.Core.List.{List, []}
+use mathlib.Core.List.{List}
 use mathlib.Core.Bool.{true}
 use Prim.Native.Nat.{ℕ, _≤_, _<_}
-use native.Mathlib.Omega.{arith}
-use lib.ListN.{length}
-use Rattle.laws.specs.Checks.{within, AllPass}
-use Rattle.laws.proofs.Tests.{all-at}
-use Rattle.laws.proofs.Checks.{all-pass-is}
-use Rattle.text.specs.Cut.{pieces}
+use Rattle.laws.specs.Checks.{AllPass}
 use Rattle.frame.specs.Apart.{frameChecks}
 use Rattle.image.specs.Cell.{isTable}
 use Rattle.survey.specs.Rows.{risesThenStays}
-use Rattle.survey.specs.File.{isFrame, contentsIn, addressIn, tableIn, sends, partsIn, contentsWith, tableSent}
-use Rattle.survey.specs.File.{elevenFrames, oneTable, eachOnce, fileNumber}
-use Rattle.survey.specs.Described.{frameAt, contentsAt, partAt}
-use Rattle.survey.proofs.Frames.{frames-ask, table-asks, parts-ask, contents-at, contents-many, part-at, parts-many, contents-with}
+use Rattle.survey.specs.File.{contentsIn, addressIn, tableIn, contentsWith, tableSent, fileNumber}
+use Rattle.survey.specs.Described.{frameAt, contentsAt, partAt, Described}
+use Rattle.survey.proofs.Frames.{Sent, table-asks}
 use Rattle.survey.proofs.Refusals.{passes-all}
-use Rattle.survey.proofs.Described.{each-part, described-exactly}
+use Rattle.survey.proofs.Described.{sent-at, each-part, contents-of-part, described-exactly}
 
 module _ (s : List ℕ) (z : fileNumber s ≡ 0) where
   abbrev cs : List (List ℕ)
   cs = contentsIn s
 
-  -- ---- each check by itself
-
-  frames : elevenFrames s ≡ true
-  frames = passes-all s z .0
-
-  one : oneTable cs ≡ true
-  one = passes-all s z .1 .0
-
-  pub once : eachOnce (partsIn cs) ≡ true
-  once = passes-all s z .1 .1 .0
+  described : Described s
+  described = described-exactly s .0 z
 
   pub rising : risesThenStays (tableSent cs) ≡ true
   rising = passes-all s z .1 .1 .1 .0
 
-  -- ---- its frames
-
-  pub eleven : length (pieces s) ≡ 11
-  eleven = frames-ask s frames .1
-
-  pub frame-passes : (k : ℕ) → k < 11 → AllPass (frameChecks (frameAt s k))
-  unfolding isFrame
-  frame-passes k l = all-pass-is _ (all-at isFrame (pieces s) [] (frames-ask s frames .2) k (omega (arith, eleven)))
-
   pub address-some : addressIn cs ≢ 0
-  address-some = table-asks cs one .0
+  address-some = table-asks cs (passes-all s z .1 .0) .0
 
   pub table-one : isTable (tableIn cs) ≡ true
-  table-one = table-asks cs one .1
+  table-one = table-asks cs (passes-all s z .1 .0) .1
 
-  pub frame-sends : (k : ℕ) → k < 11 → sends (addressIn cs) (tableIn cs) (contentsAt s k) ≡ true
-  frame-sends k l = rw (contents-at s k) at (all-at (sends (addressIn cs) (tableIn cs)) cs [] (table-asks cs one .2) k (omega (arith, contents-many s, eleven)))
+  -- ---- each of its frames
 
-  -- ---- its parts
+  pub frame-passes : (k : ℕ) → k < 11 → AllPass (frameChecks (frameAt s k))
+  frame-passes = described .frames .good
 
-  pub part-within : (k : ℕ) → k < 11 → within 1 11 (partAt s k) ≡ true
-  part-within k l = rw (part-at s k) at (all-at (within 1 11) (partsIn cs) 0 (parts-ask (partsIn cs) once .0) k (omega (arith, parts-many s, eleven)))
+  pub frame-sends : (k : ℕ) → k < 11 → Sent (addressIn cs) (tableIn cs) (contentsAt s k)
+  frame-sends = sent-at s (described .frames) (passes-all s z .1 .0)
 
-  -- each is there
+  pub part-inside : (k : ℕ) → k < 11 → (1 ≤ partAt s k) × (partAt s k ≤ 11)
+  part-inside = described .parts .inside
+
   pub part-there : (p : ℕ) → 1 ≤ p → p ≤ 11 → (k : ℕ) × (k < 11) × (partAt s k ≡ p)
-  part-there = let d = described-exactly s .0 z in each-part s (d .frames) (d .parts)
+  part-there = each-part s (described .frames) (described .parts)
 
-  pub contents-of-part : (k : ℕ) → k < 11 → contentsWith (partAt s k) cs ≡ contentsAt s k
-  contents-of-part k l =
-      rw (contents-at s k) at (contents-with cs (parts-ask (partsIn cs) once .1) k (omega (arith, contents-many s, eleven)))
+  pub contents-there : (k : ℕ) → k < 11 → contentsWith (partAt s k) cs ≡ contentsAt s k
+  contents-there = contents-of-part s (described .frames) (passes-all s z .1 .1 .0)

@@ -10,7 +10,7 @@ use native.Mathlib.Omega.{arith}
 use lib.ListN.{length, getD, length-map, List·getD-map}
 use borrow.Author.Tests.{eqb-true}
 use Rattle.laws.specs.Checks.{check, judged}
-use Rattle.laws.proofs.Bits.{all-ones}
+use Rattle.laws.proofs.Bits.{all-set-if}
 use Rattle.reorder.specs.Reorder.{final, place, pick, Reorders}
 use Rattle.reorder.proofs.Readings.{getD-pick, length-outcomes}
 use Rattle.text.specs.Cut.{pieces}
@@ -66,7 +66,7 @@ module _ (s : List ℕ) (z : fileNumber s ≡ 0) where
   abbrev rows : List ℕ
   rows = tableSent cs
 
-  pub rows-climb : neverFall rows ≡ true
+  rows-climb : neverFall rows ≡ true
   rows-climb = let (n, top) = top-is rows (rising s z) in top-climbs rows n top
 
   module _ (m : List ℕ) (good : Good current (addressIn cs) m) (xs : List Call) (all : Sends s xs) where
@@ -80,7 +80,7 @@ module _ (s : List ℕ) (z : fileNumber s ≡ 0) where
     unfolding heldOf whole
     held-all =
         held-is current after t usable-after (table-one s z)
-        ∙ rw (all-ones 11 w (bits-set s z current m good xs all), eqb-true (lowestMissing w) 0 (whole-loaded s z current m good xs all))
+        ∙ rw (all-set-if 11 w (bits-set s z current m good xs all), eqb-true (lowestMissing w) 0 (whole-loaded s z current m good xs all))
       where
         w : ℕ
         w = tableWord after (tableIndex t)

@@ -97,17 +97,21 @@ module _ {s old rows : List ℕ} {f : First} {r : Read} where
     no-table n = strange-is-18 s passed-17 (rw (sym (ap isTable table-is) ∙ n, and-false))
 
   module _ (k : Tabled s old rows f r) where
-    both : elevenFrames s ≡ true
-    both = passed-17 (k .known) (k .eleven)
+    frames-pass : elevenFrames s ≡ true
+    frames-pass = passed-17 (k .known) (k .eleven)
+
+    sent-all : all (sends (addressIn (contentsIn s)) (tableIn (contentsIn s))) (contentsIn s) ≡ true
+    sent-all = sym (all-sent (k .known) (k .eleven)) ∙ k .one
 
     passed-18 : oneTable (contentsIn s) ≡ true
     unfolding oneTable
     passed-18 =
         let a : addressIn (contentsIn s) ≢ 0 = λ e. k .address (address-is (k .known) (k .eleven) ∙ e) in
-        rw (ne-eqb (addressIn (contentsIn s)) 0 a, sym (ap isTable (table-is (k .known) (k .eleven))) ∙ k .table) (sym (all-sent (k .known) (k .eleven)) ∙ k .one)
+        let t : isTable (tableIn (contentsIn s)) ≡ true = sym (ap isTable (table-is (k .known) (k .eleven))) ∙ k .table in
+        rw (ne-eqb (addressIn (contentsIn s)) 0 a, t) sent-all
 
     all-send : all (sends (f .address) (f .table)) (contentsIn s) ≡ true
-    all-send = rw (address-is (k .known) (k .eleven), table-is (k .known) (k .eleven)) (sym (all-sent (k .known) (k .eleven)) ∙ k .one)
+    all-send = rw (address-is (k .known) (k .eleven), table-is (k .known) (k .eleven)) sent-all
 
     -- ---- 19
 
@@ -117,7 +121,7 @@ module _ {s old rows : List ℕ} {f : First} {r : Read} where
         ∙ once-tells (f .address) (f .table) (contentsIn s) all-send old
 
     pub part-again : r .sheet .once ≡ false → fileNumber s ≡ 19
-    part-again n = parts-is-19 s both passed-18 (sym told ∙ n)
+    part-again n = parts-is-19 s frames-pass passed-18 (sym told ∙ n)
 
     -- ---- 20
 
@@ -130,7 +134,7 @@ module _ {s old rows : List ℕ} {f : First} {r : Read} where
           ∙ table-gathered (f .address) (f .table) (contentsIn s) all-send (length-map (pieces s) _ ∙ p .1) (sym told ∙ once) old long
 
       pub rows-fall : risesThenStays rows ≡ false → fileNumber s ≡ 20
-      rows-fall n = rows-is-20 s both passed-18 (sym told ∙ once) (rw (← rows-are) n)
+      rows-fall n = rows-is-20 s frames-pass passed-18 (sym told ∙ once) (rw (← rows-are) n)
 
       pub rows-rise : risesThenStays rows ≡ true → fileNumber s ≡ 0
-      rows-rise n = all-pass-0 s (both, (passed-18, (sym told ∙ once, (rw (← rows-are) n, tt))))
+      rows-rise n = all-pass-0 s (frames-pass, (passed-18, (sym told ∙ once, (rw (← rows-are) n, tt))))

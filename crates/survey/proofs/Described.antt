@@ -4,22 +4,24 @@ use mathlib.Core.Path.{_≡_, refl, sym, ap, subst, _∙_}
 use mathlib.Core.Logic.{_↔_}
 use mathlib.Core.List.{List, []}
 use mathlib.Core.Bool.{Bool, true, false}
-use Prim.Native.Nat.{ℕ, _+_, _-_, _*_, _/_, _%_, _≤_, _<_}
+use Prim.Native.Nat.{ℕ, _+_, _/_, _%_, _≤_, _<_}
 use native.Mathlib.Omega.{arith}
 use lib.ListN.{length, getD, drop}
 use borrow.Author.Tests.{le-leb, eq-eqb, ne-eqb}
-use Rattle.laws.specs.Bytes.{slice}
 use Rattle.laws.specs.Checks.{within}
-use Rattle.laws.proofs.Tests.{never, within-is, within-in, all-at, all-by, among-is, distinct-is, distinct-if}
+use Rattle.laws.proofs.Tests.{never, fails, within-is, within-in, all-at, all-by, among-is, distinct-is, distinct-if}
 use Rattle.laws.proofs.Checks.{all-pass-is, all-pass-if}
 use Rattle.text.specs.Cut.{pieces}
 use Rattle.tables.specs.Rows.{level, volume}
 use Rattle.tables.proofs.Sent.{rowOf, part-rows}
 use Rattle.survey.specs.Rows.{risesThenStays}
-use Rattle.survey.specs.File.{isFrame, contentsIn, addressIn, tableIn, sends, partsIn, tableSent, elevenFrames, oneTable, eachOnce, fileNumber}
-use Rattle.survey.specs.Described.{contentsAt, tableAt, partAt, Frames, OneTable, Parts, Row, Rows, Described, Says, no-frames, no-table, no-parts, no-rows, none}
+use Rattle.survey.specs.File.{isFrame, contentsIn, addressIn, tableIn, sends, partsIn, contentsWith, tableSent}
+use Rattle.survey.specs.File.{elevenFrames, oneTable, eachOnce, fileNumber}
+use Rattle.survey.specs.Described.{contentsAt, tableAt, partAt, Frames, OneTable, Parts, Row, Rows, Described}
+use Rattle.survey.specs.Described.{Says, no-frames, no-table, no-parts, no-rows, none}
 use Rattle.survey.proofs.Rising.{top-is, top-if}
 use Rattle.survey.proofs.PartNumbers.{each-is-there}
+use Rattle.survey.proofs.Tables.{partOf}
 use Rattle.survey.proofs.Gathering.{sent-by-part}
 use Rattle.survey.proofs.Frames.{Sent, sent-is, sent-if, frames-ask, table-asks, parts-ask, contents-at, contents-many, address-at, table-at, part-at}
 use Rattle.survey.proofs.Frames.{parts-many, contents-with}
@@ -52,7 +54,7 @@ module _ (s : List ℕ) where
     many : length cs ≡ 11
     many = contents-many s ∙ frames .eleven
 
-    sent-at : oneTable cs ≡ true → (k : ℕ) → k < 11 → Sent (addressIn cs) (tableIn cs) (contentsAt s k)
+    pub sent-at : oneTable cs ≡ true → (k : ℕ) → k < 11 → Sent (addressIn cs) (tableIn cs) (contentsAt s k)
     sent-at h k l =
         sent-is _ _ _ (rw (contents-at s k) at (all-at (sends (addressIn cs) (tableIn cs)) cs [] (table-asks cs h .2) k (omega (arith, many))))
 
@@ -111,14 +113,18 @@ module _ (s : List ℕ) where
         let (k, l, e) = among-is p (partsIn cs) (each-is-there (partsIn cs) numbers (parts-if parts) p a b) in
         (k, omega (arith, numbers), sym (part-at s k) ∙ e)
 
+    -- its contents are those that have its number
+    pub contents-of-part : eachOnce (partsIn cs) ≡ true → (k : ℕ) → k < 11 → contentsWith (partAt s k) cs ≡ contentsAt s k
+    contents-of-part once k l = rw (contents-at s k) at (contents-with cs (parts-ask (partsIn cs) once .1) k (omega (arith, many)))
+
     -- ---- the rows
 
     module _ (one : oneTable cs ≡ true) (once : eachOnce (partsIn cs) ≡ true) where
-      part-is : (k : ℕ) → k < 11 → slice (128 * (partAt s k - 1)) 128 table ≡ drop 4 (contentsAt s k)
+      part-is : (k : ℕ) → k < 11 → partOf (partAt s k) table ≡ drop 4 (contentsAt s k)
       part-is k l =
           let i = parts-is once .inside k l in
           sent-by-part (addressIn cs) (tableIn cs) cs (table-asks cs one .2) many once (partAt s k) (i .0) (i .1)
-          ∙ ap (drop 4) (rw (contents-at s k) at (contents-with cs (parts-ask (partsIn cs) once .1) k (omega (arith, many))))
+          ∙ ap (drop 4) (contents-of-part once k l)
 
       -- a row of the table is the row that the description means
       row-is : {r l v : ℕ} → Row s r l v → (level table r ≡ l) × (volume table r ≡ v)
@@ -179,10 +185,6 @@ module _ (s : List ℕ) where
 
   -- ---- what the number says
 
-  fails : (b : Bool) → ¬ (b ≡ true) → b ≡ false
-  fails true n = absurd (n refl)
-  fails false n = refl
-
   says-if : (n : ℕ) → Says s n → fileNumber s ≡ n
   says-if n (no-frames h e) = no-frames-is-17 s (fails _ (λ w. h (frames-is w))) ∙ sym e
   says-if n (no-table f h e) = strange-is-18 s (frames-if f) (fails _ (λ w. h (one-is f w))) ∙ sym e
@@ -198,7 +200,8 @@ module _ (s : List ℕ) where
   says-is : Says s (fileNumber s)
   says-is = go₁ (elevenFrames s) refl
     where
-      go₄ : (f : elevenFrames s ≡ true) (o : oneTable cs ≡ true) (p : eachOnce (partsIn cs) ≡ true) (b : Bool) → risesThenStays table ≡ b → Says s (fileNumber s)
+      go₄ : (f : elevenFrames s ≡ true) (o : oneTable cs ≡ true) (p : eachOnce (partsIn cs) ≡ true) (b : Bool) → risesThenStays table ≡ b
+          → Says s (fileNumber s)
       go₄ f o p true r =
           let g = frames-is f in
           none (record { frames = g; one-table = one-is g o; parts = parts-is g p; rows = rows-is g o p r }) (all-pass-0 s (f, (o, (p, (r, tt)))))

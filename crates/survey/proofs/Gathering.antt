@@ -148,10 +148,10 @@ module _ (a t : ℕ) where
   new-added g c s n = rw (s, n)
 
   -- as code leaves it
-  pub placed : (h : Sheet) (old c rows : List ℕ) (parts : ℕ) → sends a t c ≡ true → isNew (h .parts) (byte c 4) ≡ true
+  pub new-laid : (h : Sheet) (old c rows : List ℕ) (parts : ℕ) → sends a t c ≡ true → isNew (h .parts) (byte c 4) ≡ true
       → parts ≡ withBit (h .parts) (byte c 4 - 1) → rows ≡ lay old (128 * (byte c 4 - 1)) (take (length c - 4) (drop 4 c))
       → gathering (record { one = h .one; once = h .once; parts = parts }) rows ≡ added a t (gathering h old) c
-  placed h old c rows parts s n w r =
+  new-laid h old c rows parts s n w r =
       rw (w, r, take-all (length c - 4) (drop 4 c) (omega (arith, length-drop 4 c))) (sym (new-added (gathering h old) c s n))
 
   rows-are : (g : Gathered) (cs : List (List ℕ)) → all (sends a t) cs ≡ true → allNew (g .sheet .parts) (partsIn cs) ≡ true

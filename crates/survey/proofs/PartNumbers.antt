@@ -12,8 +12,8 @@ use lib.Dec.{eqb}
 use borrow.Author.Tests.{eqb-true, eq-eqb, ne-eqb, not-true}
 use Rattle.laws.specs.Bits.{bit, withBit, onesIn}
 use Rattle.laws.specs.Checks.{within, all, among, distinct}
-use Rattle.laws.proofs.Tests.{never, and-both, or-either, both-ways, within-is, within-in, within-below, within-above, all-among}
-use Rattle.laws.proofs.Bits.{bit-cases, bit-none, bit-set, bit-kept, ones-with, ones-none, ones-all}
+use Rattle.laws.proofs.Tests.{never, and-both, or-either, fails, both-ways, within-is, within-in, within-below, within-above, all-among}
+use Rattle.laws.proofs.Bits.{bit-cases, bit-none, bit-set, bit-kept, ones-with, ones-none, all-set-is}
 use Rattle.survey.specs.File.{eachOnce}
 use Rattle.survey.specs.Gather.{isNew}
 
@@ -65,12 +65,9 @@ all-new-is w (p ∷ ps) h =
     let a = and-both (isNew w p) _ h in
     let n = new-is w p (a .0) in
     let ih = all-new-is (withBit w (p - 1)) ps (a .1) in
-    (rw (within-in 1 11 p (n .0) (n .1)) (ih .0), rw (apart (among p ps) refl (ih .2)) (ih .1), unset (n .2) (ih .2))
+    let apart = fails (among p ps) (λ e. absurd (omega (arith, ih .2 p e, bit-set w (p - 1)))) in
+    (rw (within-in 1 11 p (n .0) (n .1)) (ih .0), rw apart (ih .1), unset (n .2) (ih .2))
   where
-    apart : (t : Bool) → among p ps ≡ t → Unset (withBit w (p - 1)) ps → among p ps ≡ false
-    apart false e u = e
-    apart true e u = absurd (omega (arith, u p e, bit-set w (p - 1)))
-
     unset : bit w (p - 1) ≡ 0 → Unset (withBit w (p - 1)) ps → (q : ℕ) → (eqb q p || among q ps) ≡ true → bit w (q - 1) ≡ 0
     unset z u q i = go (or-either (eqb q p) (among q ps) i) (ℕ-discrete (p - 1) (q - 1))
       where
@@ -138,7 +135,7 @@ each-is-there ps eleven h p a b = go (set-by 0 ps (all-new-is 0 ps new .0) p a s
     new = new-once ps ∙ h
 
     set : bit (withAll 0 ps) (p - 1) ≡ 1
-    set = ones-all 11 (withAll 0 ps) (omega (arith, counted 0 ps new, ones-none 11)) (p - 1) (omega arith)
+    set = all-set-is 11 (withAll 0 ps) (omega (arith, counted 0 ps new, ones-none 11)) (p - 1) (omega arith)
 
     go : (bit 0 (p - 1) ≡ 1) ⊎ (among p ps ≡ true) → among p ps ≡ true
     go (inl e) = absurd (omega (arith, bit-none (p - 1)))

@@ -2,22 +2,22 @@
 use mathlib.Core.Path.{_≡_, refl, sym, ap, _∙_}
 use mathlib.Core.Logic.{_≢_}
 use mathlib.Core.List.{List, [], _∷_, map}
-use mathlib.Core.Bool.{Bool, true, false}
+use mathlib.Core.Bool.{true, false}
 use Prim.Native.Nat.{ℕ, _+_, _-_, _≤_, _<_}
 use native.Mathlib.Omega.{arith}
 use lib.ListN.{length, getD, take, drop, List·getD-eq-default}
 use lib.Seq.{getD-take}
 use Rattle.laws.specs.Bytes.{slice}
 use Rattle.laws.specs.Checks.{all}
-use Rattle.laws.proofs.Tests.{never}
+use Rattle.laws.proofs.Tests.{never, fails}
 use Rattle.laws.proofs.Walks.{none-left}
-use Rattle.laws.proofs.Checks.{all-pass-is, all-pass-if, judged-passed}
+use Rattle.laws.proofs.Checks.{all-pass-is, all-pass-if}
 use Rattle.output.specs.declared.answer.Answer.{Answer}
 use Rattle.text.specs.Cut.{pieces, pieceEnd}
 use Rattle.text.proofs.Cuts.{pieces-from, end-none}
 use Rattle.frame.specs.Apart.{contentsOf, frameChecks}
 use Rattle.frame.specs.Read.{ReadInto}
-use Rattle.frame.proofs.Passing.{read-passes, read-long, contents-length}
+use Rattle.frame.proofs.Passing.{read-0, read-passes, read-long, contents-length}
 use Rattle.rules.specs.Rules.{byte}
 use Rattle.survey.specs.declared.first.First.{First}
 use Rattle.survey.specs.declared.gather.Taken.{Taken}
@@ -31,18 +31,14 @@ use Rattle.survey.proofs.Frames.{address-at, table-at}
 module _ {f w : List ℕ} {r : Answer} (d : ReadInto f r w) where
   read-frame : isFrame f ≡ true → r .number ≡ 0
   unfolding isFrame
-  read-frame h = ap (λ (a : Answer). a .number) (d .answer-is ∙ judged-passed _ (frameChecks f) _ (all-pass-is (frameChecks f) h))
+  read-frame h = read-0 d (all-pass-is (frameChecks f) h)
 
   is-frame : r .number ≡ 0 → isFrame f ≡ true
   unfolding isFrame
   is-frame z = all-pass-if (frameChecks f) (read-passes d z)
 
   no-frame : r .number ≢ 0 → isFrame f ≡ false
-  no-frame n = go (isFrame f) refl
-    where
-      go : (b : Bool) → isFrame f ≡ b → isFrame f ≡ false
-      go true e = absurd (n (read-frame e))
-      go false e = e
+  no-frame n = fails (isFrame f) (λ e. n (read-frame e))
 
   -- a byte of what it holds stands in the work array
   byte-read : (i : ℕ) → r .number ≡ 0 → i < r .len → getD w i 0 ≡ getD (contentsOf f) i 0
@@ -70,30 +66,27 @@ module _ {f w : List ℕ} {r : Answer} (d : ReadInto f r w) where
         let (z, two, l) = first-read h in
         byte-read 0 z (omega arith) ∙ ap (λ (g : List ℕ). byte (contentsOf g) 1) same ∙ sym (address-at s)
 
+    opens : (x : First) → x .address ≡ getD w 0 0
+        → (isFrame (getD (pieces s) 0 []) ≡ true → x .table ≡ byte (contentsOf f) 3) → Opens s x
+    opens x a t =
+        record {
+          address-is = λ h. a ∙ address-read h;
+          table-is = λ h. t h ∙ ap (λ (g : List ℕ). byte (contentsOf g) 3) same ∙ sym (table-at s);
+        }
+
     -- a frame may end before byte 3, which then counts 0
     pub opens-short : (x : First) → x .address ≡ getD w 0 0 → x .table ≡ 0 → r .len < 3 → Opens s x
     opens-short x a t few =
-        record {
-          address-is = λ h. a ∙ address-read h;
-          table-is = λ h.
-              t
-              ∙ sym (List·getD-eq-default (contentsOf f) 0 {n = 2} (let (z, two, l) = first-read h in omega arith))
-              ∙ ap (λ (g : List ℕ). byte (contentsOf g) 3) same ∙ sym (table-at s);
-        }
+        opens x a (λ h. let (z, two, l) = first-read h in t ∙ sym (List·getD-eq-default (contentsOf f) 0 {n = 2} (omega arith)))
 
     pub opens-long : (x : First) → x .address ≡ getD w 0 0 → x .table ≡ getD w 2 0 → 3 ≤ r .len → Opens s x
-    opens-long x a t many =
-        record {
-          address-is = λ h. a ∙ address-read h;
-          table-is = λ h. let (z, two, l) = first-read h in
-              t ∙ byte-read 2 z (omega arith) ∙ ap (λ (g : List ℕ). byte (contentsOf g) 3) same ∙ sym (table-at s);
-        }
+    opens-long x a t many = opens x a (λ h. let (z, two, l) = first-read h in t ∙ byte-read 2 z (omega arith))
 
 -- the first piece, as the code cuts it
-pub first-piece : (s : List ℕ) (e : ℕ) → e ≡ pieceEnd 0 s → take e s ≡ getD (pieces s) 0 []
+pub first-cut : (s : List ℕ) (e : ℕ) → e ≡ pieceEnd 0 s → take e s ≡ getD (pieces s) 0 []
 unfolding slice pieces
-first-piece [] e h = rw (h ∙ end-none [] 0 (omega arith))
-first-piece (b ∷ s) e h =
+first-cut [] e h = rw (h ∙ end-none [] 0 (omega arith))
+first-cut (b ∷ s) e h =
     let z : e - 0 ≡ e = omega arith in
     rw (← z, h) (sym (ap (λ (l : List (List ℕ)). getD l 0 []) (pieces-from (b ∷ s) 0 (omega arith))))
 

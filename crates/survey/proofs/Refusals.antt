@@ -17,7 +17,7 @@ module _ (s : List ℕ) where
   pub file-numbered : map (λ c. c .number) (fileChecks s) ≡ 17 ∷ (18 ∷ (19 ∷ (20 ∷ [])))
   file-numbered = refl
 
-  file-rise : risingFrom 0 (fileChecks s) ≡ true
+  pub file-rise : risingFrom 0 (fileChecks s) ≡ true
   unfolding risingFrom
   file-rise = refl
 

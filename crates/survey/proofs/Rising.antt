@@ -14,26 +14,26 @@ use Rattle.laws.proofs.Tests.{never, and-both, both-ways, every-at, every-of, s
 use Rattle.tables.specs.Rows.{level, volume, climbs, volumeAt, neverFall}
 use Rattle.tables.proofs.LastRow.{climbs-if, never-fall-is}
 use Rattle.tables.proofs.Answer.{at-row}
-use Rattle.survey.specs.Rows.{rises, sameRow, staysFrom, risesTo, risesThenStays, RisesUpTo}
+use Rattle.survey.specs.Rows.{rowRises, sameRow, staysFrom, risesTo, risesThenStays, RisesUpTo}
 
 -- ---- what the tests say, for any levels and volumes
 
 module _ (level volume : ℕ → ℕ) where
-  pub rises-is : (i : ℕ) → rises level volume i ≡ true → (level i < level (i + 1)) × (volume i ≤ volume (i + 1))
-  unfolding rises
+  rises-is : (i : ℕ) → rowRises level volume i ≡ true → (level i < level (i + 1)) × (volume i ≤ volume (i + 1))
+  unfolding rowRises
   rises-is i h = let p = and-both _ _ h in (ltb-true _ _ (p .0), leb-true _ _ (p .1))
 
-  pub rises-if : (i : ℕ) → level i < level (i + 1) → volume i ≤ volume (i + 1) → rises level volume i ≡ true
-  unfolding rises
+  rises-if : (i : ℕ) → level i < level (i + 1) → volume i ≤ volume (i + 1) → rowRises level volume i ≡ true
+  unfolding rowRises
   rises-if i a b = rw (lt-ltb _ _ a, le-leb _ _ b)
 
   -- as code asks it: the levels first
-  pub level-stays : (i : ℕ) → level (i + 1) ≤ level i → rises level volume i ≡ false
-  unfolding rises
+  pub level-stays : (i : ℕ) → level (i + 1) ≤ level i → rowRises level volume i ≡ false
+  unfolding rowRises
   level-stays i a = rw (le-ltb _ _ a)
 
-  pub level-rises : (i : ℕ) → level i < level (i + 1) → rises level volume i ≡ leb (volume i) (volume (i + 1))
-  unfolding rises
+  pub level-rises : (i : ℕ) → level i < level (i + 1) → rowRises level volume i ≡ leb (volume i) (volume (i + 1))
+  unfolding rowRises
   level-rises i a = rw (lt-ltb _ _ a)
 
   pub other-level : (i j : ℕ) → level i ≢ level j → sameRow level volume i j ≡ false
@@ -53,14 +53,14 @@ module _ (level volume : ℕ → ℕ) where
   same-row-if i j a b = rw (eq-eqb _ _ a, eq-eqb _ _ b)
 
   module _ (last : ℕ) where
-    pub stays-is : (n : ℕ) → staysFrom level volume last n ≡ true → (i : ℕ) → n < i → i ≤ last → (level i ≡ level n) × (volume i ≡ volume n)
+    stays-is : (n : ℕ) → staysFrom level volume last n ≡ true → (i : ℕ) → n < i → i ≤ last → (level i ≡ level n) × (volume i ≡ volume n)
     unfolding staysFrom
     stays-is n h i a b =
         let e : n + 1 + (i - (n + 1)) ≡ i = omega arith in
         let p = same-row-is n i (rw e at (every-at _ (last - n) (i - (n + 1)) h (omega arith))) in
         (sym (p .0), sym (p .1))
 
-    pub stays-if : (n : ℕ) → ((i : ℕ) → n < i → i ≤ last → (level i ≡ level n) × (volume i ≡ volume n)) → staysFrom level volume last n ≡ true
+    stays-if : (n : ℕ) → ((i : ℕ) → n < i → i ≤ last → (level i ≡ level n) × (volume i ≡ volume n)) → staysFrom level volume last n ≡ true
     unfolding staysFrom
     stays-if n h =
         every-of _ (last - n)
@@ -72,7 +72,7 @@ module _ (level volume : ℕ → ℕ) where
     unfolding risesTo
     found n r = both-ways _ _ (λ h. some-of (risesTo level volume last) (last + 1) n (omega (arith, r .most)) (rw (r .rising) h)) back
       where
-        only : (k : ℕ) → k < last + 1 → every (rises level volume) k ≡ true → staysFrom level volume last k ≡ true → Dec (k < n) → Dec (n < k)
+        only : (k : ℕ) → k < last + 1 → every (rowRises level volume) k ≡ true → staysFrom level volume last k ≡ true → Dec (k < n) → Dec (n < k)
             → staysFrom level volume last n ≡ true
         only k l up stay (yes a) d =
             let e = stays-is k stay (k + 1) (omega arith) (omega (arith, r .most)) .0 in
@@ -99,11 +99,11 @@ module _ (s : List ℕ) where
   unfolding risesThenStays risesTo
   top-is h =
       let (n, l, p) = some-is (risesTo (level s) (volume s) 351) 352 h in
-      let q = and-both (every (rises (level s) (volume s)) n) (staysFrom (level s) (volume s) 351 n) p in (
+      let q = and-both (every (rowRises (level s) (volume s)) n) (staysFrom (level s) (volume s) 351 n) p in (
         n,
         record {
           most = omega arith;
-          rising = λ i a. rises-is (level s) (volume s) i (every-at (rises (level s) (volume s)) n i (q .0) a);
+          rising = λ i a. rises-is (level s) (volume s) i (every-at (rowRises (level s) (volume s)) n i (q .0) a);
           staying = stays-is (level s) (volume s) 351 n (q .1);
         },
       )
@@ -111,7 +111,7 @@ module _ (s : List ℕ) where
   pub top-if : (n : ℕ) → Top s n → risesThenStays s ≡ true
   unfolding risesThenStays risesTo
   top-if n t =
-      let up = every-of (rises (level s) (volume s)) n (λ i a. let p = t .rising i a in rises-if (level s) (volume s) i (p .0) (p .1)) in
+      let up = every-of (rowRises (level s) (volume s)) n (λ i a. let p = t .rising i a in rises-if (level s) (volume s) i (p .0) (p .1)) in
       some-of (risesTo (level s) (volume s) 351) 352 n (omega (arith, t .most)) (rw up (stays-if (level s) (volume s) 351 n (t .staying)))
 
   module _ (n : ℕ) (t : Top s n) where

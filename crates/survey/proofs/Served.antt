@@ -9,8 +9,8 @@ use native.Mathlib.Omega.{arith}
 use lib.ListN.{length, getD, drop}
 use borrow.Author.Tests.{eq-eqb}
 use Rattle.laws.specs.Bits.{bit}
-use Rattle.laws.specs.Checks.{judged, within, AllPass}
-use Rattle.laws.proofs.Tests.{within-is}
+use Rattle.laws.specs.Checks.{judged, AllPass}
+use Rattle.laws.proofs.Tests.{within-in}
 use Rattle.laws.proofs.Checks.{judged-passed}
 use Rattle.laws.proofs.Bytes.{length-slice}
 use Rattle.reorder.specs.Reorder.{outcomes, final}
@@ -44,19 +44,21 @@ use Rattle.survey.specs.File.{contentsIn, addressIn, tableIn, contentsWi
 use Rattle.survey.specs.Described.{frameAt, contentsAt, partAt}
 use Rattle.survey.specs.Sending.{Sends}
 use Rattle.survey.proofs.Tables.{PartByPart, part-by-part}
-use Rattle.survey.proofs.Frames.{Sent, sent-is}
-use Rattle.survey.proofs.Accepted.{frame-passes, frame-sends, table-one, part-within, part-there, contents-of-part}
+use Rattle.survey.proofs.Frames.{Sent}
+use Rattle.survey.proofs.Accepted.{frame-passes, frame-sends, table-one, part-inside, part-there, contents-there}
 
 -- ---- one frame
 
-module _ (a t : ℕ) (f : List ℕ) (sent : Sent a t (contentsOf f)) (table : isTable t ≡ true) (part : within 1 11 (byte (contentsOf f) 4) ≡ true) where
+module _ (a t : ℕ) (f : List ℕ) (sent : Sent a t (contentsOf f)) (table : isTable t ≡ true)
+    (low : 1 ≤ byte (contentsOf f) 4) (high : byte (contentsOf f) 4 ≤ 11) where
   abbrev c : List ℕ
   c = contentsOf f
 
   recognised-part : recognised Unsealed a c ≡ Accepted 2 (Store 4) (Part (tableIndex t) (byte c 4 - 1))
   unfolding recognised sought tried judged ruleOf commands lets partNamed when
   recognised-part =
-      rw (sent .command, eq-eqb (byte c 1) a (sent .address-is), sent .table-is, table, part, eq-eqb (length c + 1) 133 (omega (arith, sent .long)))
+      let long = eq-eqb (length c + 1) 133 (omega (arith, sent .long)) in
+      rw (sent .command, eq-eqb (byte c 1) a (sent .address-is), sent .table-is, table, within-in 1 11 (byte c 4) low high, long)
 
   heard-part : AllPass (frameChecks f) → heard Unsealed a f ≡ Accepted 2 (Store 4) (Part (tableIndex t) (byte c 4 - 1))
   unfolding heard
@@ -68,7 +70,7 @@ module _ (a t : ℕ) (f : List ℕ) (sent : Sent a t (contentsOf f)) (table : is
   writes-own p n l w = go (List·Memᴰ·cases-cons (rw (sent .command, sent .table-is) at (w .names)))
     where
       go : (Part (tableIndex t) (p - 1) ≡ Part (tableIndex t) (byte c 4 - 1)) ⊎ List·Memᴰ (Part (tableIndex t) (p - 1)) [] → byte c 4 ≡ p
-      go (inl e) = omega (arith, ap offset e, within-is 1 11 (byte c 4) part)
+      go (inl e) = omega (arith, ap offset e)
       go (inr m) = absurd (List·Memᴰ·not-nil m)
 
 -- ---- all of them
@@ -83,14 +85,12 @@ module _ (s : List ℕ) (z : fileNumber s ≡ 0) (v : Version) (m : List ℕ) (g
   abbrev after : List ℕ
   after = final (step (heard Unsealed) v) m xs
 
-  sent-at : (k : ℕ) → k < 11 → Sent (addressIn cs) t (contentsAt s k)
-  sent-at k l = sent-is (addressIn cs) t (contentsAt s k) (frame-sends s z k l)
-
   -- every call is served
   pub each-served : (i : ℕ) → i < length xs → getD (outcomes (step (heard Unsealed) v) m xs) i (0, []) .0 ≡ 0
   each-served i l =
       let (k, j, e) = all .only i l in
-      let h = heard-part (addressIn cs) t (frameAt s k) (sent-at k j) (table-one s z) (part-within s z k j) (frame-passes s z k j) in
+      let (low, high) = part-inside s z k j in
+      let h = heard-part (addressIn cs) t (frameAt s k) (frame-sends s z k j) (table-one s z) low high (frame-passes s z k j) in
       number-at (heard Unsealed) (heard-lawful Unsealed) v (addressIn cs) xs m good i l ∙ rw e (ap numberOf h)
 
   -- the last call that wrote a part sent the file's own
@@ -101,7 +101,7 @@ module _ (s : List ℕ) (z : fileNumber s ≡ 0) (v : Version) (m : List ℕ) (g
       wrote : (k i : ℕ) → k < 11 → partAt s k ≡ p → i < length xs → getD xs i nothing .frame ≡ frameAt s k
           → Wrote (Part (tableIndex t) (p - 1)) (getD xs i nothing .frame) (getD (outcomes (step (heard Unsealed) v) m xs) i (0, []) .0)
       wrote k i j h l e =
-          let c = sent-at k j in
+          let c = frame-sends s z k j in
           record { done-is = each-served i l; names = rw (e, c .command, c .table-is, h) (List·Memᴰ·head refl) }
 
       go : UnwrittenCall (heard Unsealed) v (Part (tableIndex t) (p - 1)) m xs ⊎ ((i : ℕ) × LastCall (heard Unsealed) v (Part (tableIndex t) (p - 1)) m xs i)
@@ -112,7 +112,8 @@ module _ (s : List ℕ) (z : fileNumber s ≡ 0) (v : Version) (m : List ℕ) (g
           absurd (none i l (wrote k i j h l e))
       go (inr (i, last)) =
           let (k, j, e) = all .only i (last .inside) in
-          let own = writes-own (addressIn cs) t (frameAt s k) (sent-at k j) (table-one s z) (part-within s z k j) p _ a (rw e at (last .wrote)) in
+          let (low, high) = part-inside s z k j in
+          let own = writes-own (addressIn cs) t (frameAt s k) (frame-sends s z k j) (table-one s z) low high p _ a (rw e at (last .wrote)) in
           (k, j, own, rw e at (last-call-holds (heard Unsealed) (heard-lawful Unsealed) v (Part (tableIndex t) (p - 1)) m xs i last))
 
   -- ---- the table is then the file's
@@ -127,7 +128,7 @@ module _ (s : List ℕ) (z : fileNumber s ≡ 0) (v : Version) (m : List ℕ) (g
   part-sent : PartByPart (tableBytes after t) cs
   part-sent p a b =
       let (k, j, own, holds) = part-holds p a b in
-      let e : contentsAt s k ≡ contentsWith p cs = sym (contents-of-part s z k j) ∙ ap (λ (q : ℕ). contentsWith q cs) own in
+      let e : contentsAt s k ≡ contentsWith p cs = sym (contents-there s z k j) ∙ ap (λ (q : ℕ). contentsWith q cs) own in
       part-of-table after t p (omega arith) ∙ holds-part (frameAt s k) after t p holds .0 ∙ ap (drop 4) e
 
   table-long : length (tableBytes after t) ≡ 1408

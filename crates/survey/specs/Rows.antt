@@ -10,9 +10,9 @@ use Rattle.tables.specs.Rows.{level, volume}
 
 -- ---- for any levels and volumes
 
--- from row i to the next the level rises, and the volume does not fall
-unfoldable pub rises : (ℕ → ℕ) → (ℕ → ℕ) → ℕ → Bool
-rises level volume i = ltb (level i) (level (i + 1)) && leb (volume i) (volume (i + 1))
+-- from row i to the next the level rowRises, and the volume does not fall
+unfoldable pub rowRises : (ℕ → ℕ) → (ℕ → ℕ) → ℕ → Bool
+rowRises level volume i = ltb (level i) (level (i + 1)) && leb (volume i) (volume (i + 1))
 
 unfoldable pub sameRow : (ℕ → ℕ) → (ℕ → ℕ) → ℕ → ℕ → Bool
 sameRow level volume i j = eqb (level i) (level j) && eqb (volume i) (volume j)
@@ -23,7 +23,7 @@ staysFrom level volume last n = every (λ k. sameRow level volume n (n + 1 + k))
 
 -- rows 0 .. n rise, and the later ones stay
 unfoldable pub risesTo : (ℕ → ℕ) → (ℕ → ℕ) → ℕ → ℕ → Bool
-risesTo level volume last n = every (rises level volume) n && staysFrom level volume last n
+risesTo level volume last n = every (rowRises level volume) n && staysFrom level volume last n
 
 -- ---- of a table's bytes
 
@@ -36,5 +36,5 @@ risesThenStays s = some (risesTo (level s) (volume s) 351) 352
 -- row n is the first from which the next does not rise, or the last
 pub record RisesUpTo (level volume : ℕ → ℕ) (last n : ℕ) : Type 0 where
   pub most : n ≤ last
-  pub rising : every (rises level volume) n ≡ true
-  pub no-further : n < last → rises level volume n ≡ false
+  pub rising : every (rowRises level volume) n ≡ true
+  pub no-further : n < last → rowRises level volume n ≡ false

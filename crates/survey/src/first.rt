@@ -7,7 +7,8 @@ pub(crate) struct First {
     pub table: u8,
 }
 
-// Where the first piece is no frame, nothing is said: the file is refused for that.
+// Where the first piece is no frame, nothing is said: the file is refused for that. The contents of a short one may end before a table: what stands there
+// then is its checksum.
 pub(crate) fn first_of(file: &[u8]) -> First
     ensures { λ r. ⌜ Opens (now (file .entry)) r ⌝ }
 {

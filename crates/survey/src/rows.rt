@@ -1,18 +1,17 @@
 // Whether a table's rows rise up to some row and then stay as it is. Rows count from 0.
+use tables::LAST_ROW;
 use tables::level_of;
 use tables::volume_of;
 ghost use mathlib.Core.Path.{_≡_};
 ghost use Prim.Native.Nat.{_<_, _≤_};
 ghost use lib.ListN.{length};
 ghost use Rattle.tables.specs.Rows.{level, volume};
-ghost use Rattle.survey.specs.Rows.{rises, sameRow, staysFrom, RisesUpTo, risesThenStays};
-
-const LAST_ROW: usize = 351;
+ghost use Rattle.survey.specs.Rows.{rowRises, sameRow, staysFrom, RisesUpTo, risesThenStays};
 
 // From a row to the next.
-fn rises(s: &[u8], i: usize) -> bool
+fn row_rises(s: &[u8], i: usize) -> bool
     requires { ⌜ (length (now s) ≡ 1408) × (i < 351) ⌝ }
-    ensures { λ r. ⌜ r ≡ rises (level (now (s .entry))) (volume (now (s .entry))) i ⌝ }
+    ensures { λ r. ⌜ r ≡ rowRises (level (now (s .entry))) (volume (now (s .entry))) i ⌝ }
 {
     if level_of(s, i + 1) <= level_of(s, i) {
         return false;
@@ -37,7 +36,7 @@ fn last_rising(s: &[u8]) -> usize
 {
     let mut i = 0;
     while i < LAST_ROW {
-        if !rises(s, i) {
+        if !row_rises(s, i) {
             return i;
         }
         i += 1;

@@ -14,6 +14,12 @@ const CONTENTS_SIZE: usize = 132;
 // Where the rows begin.
 const ROWS_AT: usize = 4;
 
+// The command that writes a part.
+const WRITES_PART: u8 = 59;
+
+// A table's last part.
+const LAST_PART: u8 = 11;
+
 // What the frames so far have said: that all are for one table, that no part came twice and none is outside 1..11, and which parts came, part p at
 // bit p - 1.
 pub(crate) struct Sheet {
@@ -28,7 +34,7 @@ fn sends(c: &[u8], address: u8, table: u8) -> bool
     if c.len() != CONTENTS_SIZE {
         return false;
     }
-    if c[1] != 59 {
+    if c[1] != WRITES_PART {
         return false;
     }
     if c[0] != address {
@@ -43,7 +49,7 @@ fn is_new(parts: u16, p: u8) -> bool
     if p < 1 {
         return false;
     }
-    if 11 < p {
+    if LAST_PART < p {
         return false;
     }
     !has_bit(parts, (p - 1) as u16)

@@ -9,7 +9,7 @@ const ROW_SIZE: usize = 4;
 
 const ROWS: usize = 352;
 
-pub(crate) const LAST_ROW: usize = 351;
+pub const LAST_ROW: usize = 351;
 
 pub fn level_of(s: &[u8], i: usize) -> u16
     requires { ⌜ (length (now s) ≡ 1408) × (i < 352) ⌝ }

@@ -12,7 +12,7 @@ use Rattle.frame.specs.Digits.{isDigit, valueOf, charOf, charsOf, bytesOf, chec
 use Rattle.frame.specs.Apart.{lengthOk, endsOk, inner, bodyOf, contentsOf, sumOk, frameChecks}
 use Rattle.frame.specs.Built.{frameOf}
 use Rattle.image.specs.Cell.{isTable}
-use Rattle.survey.specs.Rows.{rises, sameRow, staysFrom, risesTo, risesThenStays}
+use Rattle.survey.specs.Rows.{rowRises, sameRow, staysFrom, risesTo, risesThenStays}
 use Rattle.survey.specs.File.{isFrame, contentsIn, addressIn, tableIn, sends, partsIn, contentsWith, rowsTo, tableSent}
 use Rattle.survey.specs.File.{elevenFrames, oneTable, eachOnce, fileNumber}
 
@@ -33,26 +33,23 @@ ten = 11 ∷ 10 ∷ 9 ∷ 8 ∷ 7 ∷ 6 ∷ 5 ∷ 4 ∷ 3 ∷ 2 ∷ []
 abbrev pub file : ℕ → ℕ → (ℕ → ℕ) → (ℕ → ℕ) → ℕ → List ℕ
 file a t level volume p = framesBy a t level volume (ten ++ (p ∷ []))
 
--- rows that rise to the last, in small letters; and rows that rise to row 101 with one volume, the others repeating it
-pub accepted : (fileNumber (map (λ c. cond (within 65 70 c) (c + 32) c) (file 171 12 (λ r. r) (λ r. r) 1)) ≡ 0)
-    × (fileNumber (file 255 18 (λ r. min r 100) (λ r. 7) 1) ≡ 0)
-unfolding framesBy rowsFrom two fileNumber firstFailing judged elevenFrames isFrame pieces frameOf frameChecks lengthOk endsOk inner bodyOf contentsOf sumOk
-    within all isDigit valueOf charOf charsOf bytesOf checksumOf sumOf slice contentsIn addressIn tableIn sends partsIn contentsWith rowsTo tableSent oneTable
-    eachOnce isTable distinct among risesThenStays risesTo rises sameRow staysFrom every some wordAt
-accepted = (refl, refl)
+-- accepted: rows that rise to the last, in small letters; rows that rise to row 101 with one volume, the others repeating it. Refused 17, 18 and 19: a byte
+-- behind the last frame; table 9; part 2 twice. Refused 20: each row twice, as stairs have it; a volume that goes on to rise behind the top level; row 352
+-- alone fallen
+abbrev pub files : List (List ℕ)
+files =
+    map (λ c. cond (within 65 70 c) (c + 32) c) (file 171 12 (λ r. r) (λ r. r) 1)
+    ∷ file 255 18 (λ r. min r 100) (λ r. 7) 1
+    ∷ (file 1 12 (λ r. r) (λ r. r) 1 ++ (10 ∷ []))
+    ∷ file 1 9 (λ r. r) (λ r. r) 1
+    ∷ file 1 12 (λ r. r) (λ r. r) 2
+    ∷ file 1 12 (λ r. r / 2) (λ r. r / 2) 1
+    ∷ file 1 12 (λ r. min r 100) (λ r. r) 1
+    ∷ file 1 12 (λ r. r) (λ r. cond (eqb r 351) 349 r) 1
+    ∷ []
 
--- a byte behind the last frame; table 9; part 2 twice
-pub refused : (fileNumber (file 1 12 (λ r. r) (λ r. r) 1 ++ (10 ∷ [])) ≡ 17) × (fileNumber (file 1 9 (λ r. r) (λ r. r) 1) ≡ 18)
-    × (fileNumber (file 1 12 (λ r. r) (λ r. r) 2) ≡ 19)
+pub files-numbered : map fileNumber files ≡ 0 ∷ 0 ∷ 17 ∷ 18 ∷ 19 ∷ 20 ∷ 20 ∷ 20 ∷ []
 unfolding framesBy rowsFrom two fileNumber firstFailing judged elevenFrames isFrame pieces frameOf frameChecks lengthOk endsOk inner bodyOf contentsOf sumOk
     within all isDigit valueOf charOf charsOf bytesOf checksumOf sumOf slice contentsIn addressIn tableIn sends partsIn contentsWith rowsTo tableSent oneTable
-    eachOnce isTable distinct among risesThenStays risesTo rises sameRow staysFrom every some wordAt
-refused = (refl, refl, refl)
-
--- each row twice, as stairs have it; a volume that goes on to rise behind the top level; row 352 alone fallen
-pub refused-20 : (fileNumber (file 1 12 (λ r. r / 2) (λ r. r / 2) 1) ≡ 20) × (fileNumber (file 1 12 (λ r. min r 100) (λ r. r) 1) ≡ 20)
-    × (fileNumber (file 1 12 (λ r. r) (λ r. cond (eqb r 351) 349 r) 1) ≡ 20)
-unfolding framesBy rowsFrom two fileNumber firstFailing judged elevenFrames isFrame pieces frameOf frameChecks lengthOk endsOk inner bodyOf contentsOf sumOk
-    within all isDigit valueOf charOf charsOf bytesOf checksumOf sumOf slice contentsIn addressIn tableIn sends partsIn contentsWith rowsTo tableSent oneTable
-    eachOnce isTable distinct among risesThenStays risesTo rises sameRow staysFrom every some wordAt
-refused-20 = (refl, refl, refl)
+    eachOnce isTable distinct among risesThenStays risesTo rowRises sameRow staysFrom every some wordAt
+files-numbered = refl

@@ -3,7 +3,8 @@ use mathlib.Core.Path.{sym, _∙_}
 use borrow.Author.Needs.{needs}
 use borrow.Author.Tests.{not-true, not-false}
 use Rattle.image.proofs.Indices.{index-is, no-index}
-use Rattle.survey.proofs.Checking.{Known, Tabled, too-long-is-17, known, tabled, frames-wrong, stranger, address-0, no-table, part-again, rows-fall, rows-rise}
+use Rattle.survey.proofs.Checking.{Known, Tabled, known, tabled}
+use Rattle.survey.proofs.Checking.{too-long-is-17, frames-wrong, stranger, address-0, no-table, part-again, rows-fall, rows-rise}
 use Rattle.survey.proofs.file.check_with.Statement.{statement}
 use Rattle.survey.proofs.file.check_with.Tie as tie
 

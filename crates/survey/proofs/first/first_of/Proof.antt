@@ -4,7 +4,7 @@ use native.Mathlib.Omega.{arith}
 use lib.Seq.{length-take-le}
 use borrow.Author.Needs.{needs}
 use Rattle.text.proofs.Cuts.{end-most}
-use Rattle.survey.proofs.Reading.{first-piece, opens-short, opens-long}
+use Rattle.survey.proofs.Reading.{first-cut, opens-short, opens-long}
 use Rattle.survey.proofs.first.first_of.Statement.{statement}
 use Rattle.survey.proofs.first.first_of.Tie as tie
 
@@ -34,14 +34,14 @@ returns c =
     let r = c .before .before in
     let p = r .before .before .before in
     let s = p .before .before .args .file .now in
-    opens-short (r .read-into .ensures) s (first-piece s _ (p .piece-end .ensures)) _ refl refl (c .if1 .taken)
+    opens-short (r .read-into .ensures) s (first-cut s _ (p .piece-end .ensures)) _ refl refl (c .if1 .taken)
 
 returns-2 : tie.Need-returns-2
 returns-2 c =
     let r = c .before .before in
     let p = r .before .before .before in
     let s = p .before .before .args .file .now in
-    opens-long (r .read-into .ensures) s (first-piece s _ (p .piece-end .ensures)) _ refl refl (c .if1 .left)
+    opens-long (r .read-into .ensures) s (first-cut s _ (p .piece-end .ensures)) _ refl refl (c .if1 .left)
 
 pub first-of-spec : {M : Type 1} → statement M
 first-of-spec =

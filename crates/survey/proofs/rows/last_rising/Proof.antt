@@ -7,12 +7,12 @@ use borrow.Author.Tests.{not-true, not-false}
 use Rattle.laws.specs.Checks.{every}
 use Rattle.laws.proofs.Tests.{every-next}
 use Rattle.tables.specs.Rows.{level, volume}
-use Rattle.survey.specs.Rows.{rises}
+use Rattle.survey.specs.Rows.{rowRises}
 use Rattle.survey.proofs.rows.last_rising.Statement.{statement}
 use Rattle.survey.proofs.rows.last_rising.Tie as tie
 
 abbrev Inv-loop : tie.InvT-loop
-Inv-loop s i₀ i = (i ≤ 351) × (every (rises (level s) (volume s)) i ≡ true)
+Inv-loop s i₀ i = (i ≤ 351) × (every (rowRises (level s) (volume s)) i ≡ true)
 
 abbrev μ-loop : tie.MeasureT-loop
 μ-loop s i₀ i = 351 - i
@@ -21,13 +21,13 @@ loop-holds : tie.Need-loop-holds Inv-loop μ-loop
 unfolding every
 loop-holds c = (omega arith, refl)
 
-rises-requires : tie.Need-rises-requires Inv-loop μ-loop
-rises-requires c κs = (c .before .before .before .pre, omega arith)
+row-rises-requires : tie.Need-row-rises-requires Inv-loop μ-loop
+row-rises-requires c κs = (c .before .before .before .pre, omega arith)
 
 returns : tie.Need-returns Inv-loop μ-loop
 returns c =
     let l = c .before .before .before in
-    record { most = omega arith; rising = l .loop .inv .1; no-further = λ m. sym (c .before .rises .ensures) ∙ not-true _ (c .if1 .taken) }
+    record { most = omega arith; rising = l .loop .inv .1; no-further = λ m. sym (c .before .row-rises .ensures) ∙ not-true _ (c .if1 .taken) }
 
 add-i : tie.Need-add-i Inv-loop μ-loop
 add-i c = omega arith
@@ -37,7 +37,7 @@ loop-less c = omega arith
 
 loop-again : tie.Need-loop-again Inv-loop μ-loop
 loop-again c =
-    let e = sym (c .before .rises .ensures) ∙ not-false _ (c .if1 .left) in
+    let e = sym (c .before .row-rises .ensures) ∙ not-false _ (c .if1 .left) in
     (omega arith, every-next _ _ (c .before .before .before .loop .inv .1) e)
 
 returns-2 : tie.Need-returns-2 Inv-loop μ-loop
@@ -52,7 +52,7 @@ last-rising-spec =
     Inv-loop
     μ-loop
     loop-holds
-    rises-requires
+    row-rises-requires
     returns
     add-i
     loop-less

@@ -11,7 +11,7 @@ use Rattle.survey.specs.File.{sends}
 use Rattle.survey.specs.Gather.{gathering, isNew}
 use Rattle.survey.proofs.Frames.{sent-is}
 use Rattle.survey.proofs.PartNumbers.{new-is}
-use Rattle.survey.proofs.Gathering.{strange-added, repeated-added, placed}
+use Rattle.survey.proofs.Gathering.{strange-added, repeated-added, new-laid}
 use Rattle.survey.proofs.sheet.Sheet.add.Statement.{statement}
 use Rattle.survey.proofs.sheet.Sheet.add.Tie as tie
 
@@ -97,7 +97,7 @@ returns-3 c =
     let n = p .before .before .before in
     let e = n .before .before .before in
     let a = e .before .before .before .before .args in
-    placed (a .address) (a .table) (a .self) (a .rows .now) (a .c .now) _ _ (sent e) (new n) (c .set-bit .ensures) (p .put-all .ensures .laid)
+    new-laid (a .address) (a .table) (a .self) (a .rows .now) (a .c .now) _ _ (sent e) (new n) (c .set-bit .ensures) (p .put-all .ensures .laid)
 
 pub add-spec : {M : Type 1} → statement M
 add-spec =

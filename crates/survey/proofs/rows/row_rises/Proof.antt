@@ -4,8 +4,8 @@ use native.Mathlib.Omega.{arith}
 use borrow.Author.Needs.{needs}
 use Rattle.tables.specs.Rows.{level, volume}
 use Rattle.survey.proofs.Rising.{level-stays, level-rises}
-use Rattle.survey.proofs.rows.rises.Statement.{statement}
-use Rattle.survey.proofs.rows.rises.Tie as tie
+use Rattle.survey.proofs.rows.row_rises.Statement.{statement}
+use Rattle.survey.proofs.rows.row_rises.Tie as tie
 
 add-level-of : tie.Need-add-level-of
 add-level-of c = search needs
@@ -33,8 +33,8 @@ returns-2 c =
     let a = c .before .before .before .before .before .before .args in
     rw (c .before .volume-of .ensures, c .volume-of2 .ensures) (sym (level-rises (level (a .s .now)) (volume (a .s .now)) (a .i) (omega arith)))
 
-pub rises-spec : {M : Type 1} → statement M
-rises-spec =
+pub row-rises-spec : {M : Type 1} → statement M
+row-rises-spec =
     tie.close
     (tie.spec
     add-level-of
