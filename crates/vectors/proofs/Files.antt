@@ -4,7 +4,6 @@ use mathlib.Core.Path.{_≡_, refl}
 use mathlib.Core.List.{List, [], _∷_, _++_, map}
 use mathlib.Core.Bool.{cond}
 use Prim.Native.Nat.{ℕ, zero, suc, _+_, _-_, _*_, _/_, min}
-use lib.Dec.{eqb}
 use Rattle.laws.specs.Bytes.{slice, wordAt, sumOf, two}
 use Rattle.laws.specs.Checks.{firstFailing, judged, within, all, distinct, among, every, some}
 use Rattle.text.specs.Cut.{pieces}
@@ -26,29 +25,21 @@ unfoldable pub framesBy : ℕ → ℕ → (ℕ → ℕ) → (ℕ → ℕ) → Li
 framesBy a t level volume [] = []
 framesBy a t level volume (p ∷ ps) = frameOf (a ∷ (59 ∷ (t ∷ (p ∷ rowsFrom level volume (32 * (p - 1)) 32)))) ++ framesBy a t level volume ps
 
--- ten parts, before the last frame of a file
-abbrev pub ten : List ℕ
-ten = 11 ∷ 10 ∷ 9 ∷ 8 ∷ 7 ∷ 6 ∷ 5 ∷ 4 ∷ 3 ∷ 2 ∷ []
+abbrev pub file : ℕ → ℕ → (ℕ → ℕ) → (ℕ → ℕ) → List ℕ
+file a t level volume = framesBy a t level volume (11 ∷ 10 ∷ 9 ∷ 8 ∷ 7 ∷ 6 ∷ 5 ∷ 4 ∷ 3 ∷ 2 ∷ 1 ∷ [])
 
-abbrev pub file : ℕ → ℕ → (ℕ → ℕ) → (ℕ → ℕ) → ℕ → List ℕ
-file a t level volume p = framesBy a t level volume (ten ++ (p ∷ []))
-
--- accepted: rows that rise to the last, in small letters; rows that rise to row 101 with one volume, the others repeating it. Refused 17, 18 and 19: a byte
--- behind the last frame; table 9; part 2 twice. Refused 20: each row twice, as stairs have it; a volume that goes on to rise behind the top level; row 352
--- alone fallen
+-- accepted: rows that rise to the last, in small letters; rows that rise to row 101 with one volume, the others repeating it. Refused 17: a byte behind the
+-- last frame. Refused 20: each row twice, as stairs have it; a volume that goes on to rise behind the top level
 abbrev pub files : List (List ℕ)
 files =
-    map (λ c. cond (within 65 70 c) (c + 32) c) (file 171 12 (λ r. r) (λ r. r) 1)
-    ∷ file 255 18 (λ r. min r 100) (λ r. 7) 1
-    ∷ (file 1 12 (λ r. r) (λ r. r) 1 ++ (10 ∷ []))
-    ∷ file 1 9 (λ r. r) (λ r. r) 1
-    ∷ file 1 12 (λ r. r) (λ r. r) 2
-    ∷ file 1 12 (λ r. r / 2) (λ r. r / 2) 1
-    ∷ file 1 12 (λ r. min r 100) (λ r. r) 1
-    ∷ file 1 12 (λ r. r) (λ r. cond (eqb r 351) 349 r) 1
+    map (λ c. cond (within 65 70 c) (c + 32) c) (file 171 12 (λ r. r) (λ r. r))
+    ∷ file 255 18 (λ r. min r 100) (λ r. 7)
+    ∷ (file 1 12 (λ r. r) (λ r. r) ++ (10 ∷ []))
+    ∷ file 1 12 (λ r. r / 2) (λ r. r / 2)
+    ∷ file 1 12 (λ r. min r 100) (λ r. r)
     ∷ []
 
-pub files-numbered : map fileNumber files ≡ 0 ∷ 0 ∷ 17 ∷ 18 ∷ 19 ∷ 20 ∷ 20 ∷ 20 ∷ []
+pub files-numbered : map fileNumber files ≡ 0 ∷ 0 ∷ 17 ∷ 20 ∷ 20 ∷ []
 unfolding framesBy rowsFrom two fileNumber firstFailing judged elevenFrames isFrame pieces frameOf frameChecks lengthOk endsOk inner bodyOf contentsOf sumOk
     within all isDigit valueOf charOf charsOf bytesOf checksumOf sumOf slice contentsIn addressIn tableIn sends partsIn contentsWith rowsTo tableSent oneTable
     eachOnce isTable distinct among risesThenStays risesTo rowRises sameRow staysFrom every some wordAt
