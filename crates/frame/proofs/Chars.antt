@@ -3,13 +3,12 @@ use mathlib.Core.Path.{_≡_}
 use mathlib.Core.Logic.{inl, inr, _⊎_}
 use mathlib.Core.List.{List, [], _∷_}
 use mathlib.Core.Bool.{true, false, _||_}
-use Prim.Native.Nat.{ℕ, zero, suc, _+_, _-_, _*_, _≤_, _<_}
-use native.Mathlib.Nat.{not-suc-le-zero}
+use Prim.Native.Nat.{ℕ, _+_, _-_, _*_, _≤_, _<_}
 use native.Mathlib.Omega.{arith}
 use lib.ListN.{length, getD, drop}
 use borrow.Author.Tests.{lt-ltb, le-ltb}
 use Rattle.laws.specs.Checks.{within, all}
-use Rattle.laws.proofs.Tests.{and-both, or-either, within-is, within-in, within-below, within-above}
+use Rattle.laws.proofs.Tests.{or-either, within-is, within-in, within-below, within-above, all-at}
 use Rattle.laws.proofs.Walks.{next2, none-left}
 use Rattle.frame.specs.Digits.{isSmall, isDigit, allDigits, valueOf, charOf, bytesOf}
 
@@ -84,10 +83,7 @@ module _ (c : ℕ) where
 -- ---- a list of them
 
 pub digit-at : (s : List ℕ) (i : ℕ) → allDigits s ≡ true → i < length s → isDigit (getD s i 0) ≡ true
-unfolding all
-digit-at [] i d h = absurd (not-suc-le-zero h)
-digit-at (c ∷ s) zero d h = and-both (isDigit c) (allDigits s) d .0
-digit-at (c ∷ s) (suc i) d h = digit-at s i (and-both (isDigit c) (allDigits s) d .1) (omega arith)
+digit-at s i d h = all-at isDigit s 0 d i h
 
 module _ (s : List ℕ) (i : ℕ) where
   pub all-done : length s ≤ i → allDigits (drop i s) ≡ true
