@@ -1,4 +1,6 @@
 // The desk program: serves the frames that stand on standard input, and prints a line for each.
+#![tactic(auto)]
+
 ghost use Rattle.std.specs.Prelude.{◌≡◌, take};
 ghost use Rattle.desk_run.specs.Desk.{Lent, desk_image};
 

@@ -1,4 +1,6 @@
 // Serving the pieces of an input in turn, into a text that is handed out in portions: what the desk program does between reading and writing.
+#![tactic(auto)]
+
 mod input;
 mod line;
 mod piece;

@@ -8,7 +8,7 @@ use crate::piece::put_piece;
 use output::Cursor;
 
 // Where in the input the serving stopped, and how much text there is.
-#[derive(Drop)]
+#[derive(Clone, Copy)]
 pub struct Progress {
     pub from: usize,
     pub len: usize,

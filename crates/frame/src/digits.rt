@@ -13,7 +13,7 @@ pub(crate) fn char_of(h: u8) -> u8
 }
 
 // What characters were read as: whether all are digits, and the total of their bytes.
-#[derive(Drop)]
+#[derive(Clone, Copy)]
 pub(crate) struct Tally {
     pub all: bool,
     pub total: u8,

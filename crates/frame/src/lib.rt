@@ -1,4 +1,6 @@
 // The frame of document 01: taking one apart and building one; and for serving, reading one into a work array and writing one as its bytes come.
+#![tactic(auto)]
+
 mod apart;
 mod built;
 mod digits;

@@ -9,7 +9,7 @@ use crate::total::{added, check_of};
 use output::{Answer, Cursor};
 
 // A frame as it is written: where its next character goes, and the total of its bytes so far.
-#[derive(Drop)]
+#[derive(Clone, Copy)]
 pub struct Writer {
     pub at: usize,
     pub total: u8,

@@ -5,7 +5,7 @@ ghost use Rattle.image.specs.Words.{signature_word};
 
 // What a command works on: one of the 195 cells, or all eleven parts of a table at once, of which its signature and a volume speak. Inside, numbers
 // count from 0: channels 0..7, error tables 0..7, tables 0..15 in image order, parts 0..10.
-#[derive(Drop)]
+#[derive(Clone, Copy)]
 pub enum Cell {
     Mask,
     Mode,
@@ -17,14 +17,14 @@ pub enum Cell {
 }
 
 // What a request's numbers name.
-#[derive(Drop)]
+#[derive(Clone, Copy)]
 pub enum Named {
     Nothing,
     Cell(Cell),
 }
 
 // Where the signature is kept that a cell's bytes count in.
-#[derive(Drop)]
+#[derive(Clone, Copy)]
 pub enum Signed {
     Nowhere,
     At(usize),

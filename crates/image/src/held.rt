@@ -9,7 +9,7 @@ use crate::version::Version;
 use crate::word::word_at;
 
 // The number; how many parts are held; the lowest missing part, 0 if none is.
-#[derive(Drop)]
+#[derive(Clone, Copy)]
 pub struct Held {
     pub number: u8,
     pub parts: u8,

@@ -1,4 +1,6 @@
 // The image: its versions and cells, when it is usable, a fresh one, the words and their bits, held parts.
+#![tactic(auto)]
+
 mod cell;
 mod fresh;
 mod held;

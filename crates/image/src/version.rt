@@ -3,7 +3,7 @@ ghost use Rattle.std.specs.Prelude.{◌≡◌};
 ghost use Rattle.image.specs.Version.{version_number, image_length};
 
 // Version 1 is document 01's; version 2 keeps the signatures.
-#[derive(Drop)]
+#[derive(Clone, Copy)]
 pub enum Version {
     V1,
     V2,

@@ -1,5 +1,7 @@
 // The block as the customer sees it: five functions, each of which takes every input and says, for every input, all that it returns and
 // leaves. A frame, an image and an output are lent; lengths are those of the whole lent slice. The numbers are document 01's, and 16 document 02's.
+#![tactic(auto)]
+
 ghost use Rattle.std.specs.Prelude.{◌≡◌};
 ghost use Rattle.output.specs.Output.{Does};
 ghost use Rattle.frame.specs.Apart.{apart};

@@ -1,1 +1,2 @@
 // No code: the signatures that an image keeps, proved over the definition of serving.
+#![tactic(auto)]

@@ -1,4 +1,6 @@
 // Frames off a noisy line (document 02, request 1): a listener takes one byte at a time and says when a frame is there. It refuses nothing.
+#![tactic(auto)]
+
 mod step;
 
 ghost use Rattle.std.specs.Prelude.{◌≡◌};

@@ -3,7 +3,7 @@ ghost use Rattle.std.specs.Prelude.{◌≡◌, ◌<◌};
 ghost use Rattle.listener.specs.Listening.{passes, gathers, ends_frame, step_of, before_at};
 
 // The count and the flag afterwards; whether the byte is stored, as the last of those counted; and whether a frame is there now.
-#[derive(Drop)]
+#[derive(Clone, Copy)]
 pub struct Step {
     pub count: usize,
     pub gathering: bool,

@@ -1,1 +1,2 @@
 // No code: in which orders frames may be served, proved over the definition of serving.
+#![tactic(auto)]

@@ -4,7 +4,7 @@ ghost use Rattle.laws.specs.Bytes.{zeros};
 ghost use Rattle.output.specs.Cursor.{Laid};
 
 // Where the next byte of an output goes.
-#[derive(Drop)]
+#[derive(Clone, Copy)]
 pub struct Cursor {
     pub at: usize,
 }

@@ -1,6 +1,8 @@
 // The block for the panel's host, which is written in C (document 02, request 9): plain numbers and byte slices, each slice a pointer with its length.
 // Both take every input and say, for every input, all that they return and leave. What the lent numbers held does not matter. A number of the host's is
 // judged at 64 bits, so that none is taken for another.
+#![tactic(auto)]
+
 ghost use Rattle.std.specs.Prelude.{◌≡◌, cond, leb};
 ghost use Rattle.panel.specs.Panel.{switch_of, ServesPanel, TellsPanel};
 

@@ -1,5 +1,7 @@
 // Shows what the desk program cannot: the image and the output after each call of a script, and what a listener hands out. tests/PROBE.md has the
 // script's form.
+#![tactic(auto)]
+
 mod call;
 mod line;
 mod print;

@@ -1,4 +1,6 @@
 // From a decoded body to what is to be done: document 01's fourteen commands and their checks, 7 to 11, with the key switch's, 16, behind 8.
+#![tactic(auto)]
+
 mod names;
 mod rule;
 mod switch;

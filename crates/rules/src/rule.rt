@@ -3,7 +3,7 @@ ghost use Rattle.std.specs.Prelude.{◌≡◌};
 ghost use Rattle.rules.specs.Rules.{commands, rule_of};
 
 // A command's body length, checksum included.
-#[derive(Drop)]
+#[derive(Clone, Copy)]
 pub enum Long {
     Is(usize),
     // 5 + 3k, k from 1 to 21
@@ -11,7 +11,7 @@ pub enum Long {
 }
 
 // How a body names what the command works on.
-#[derive(Drop)]
+#[derive(Clone, Copy)]
 pub enum Names {
     Mask,
     Mode,
@@ -25,7 +25,7 @@ pub enum Names {
 }
 
 // Which of a body's values are judged.
-#[derive(Drop)]
+#[derive(Clone, Copy)]
 pub enum Values {
     Anything,
     Constants,
@@ -35,7 +35,7 @@ pub enum Values {
 }
 
 // What is done: the stretch's bytes are shown, its signature is, or the body's bytes from an index on are stored there.
-#[derive(Drop)]
+#[derive(Clone, Copy)]
 pub enum Act {
     Show,
     Sign,
@@ -43,7 +43,7 @@ pub enum Act {
 }
 
 // What a command asks and does; echo is how many of the request's data bytes its reply repeats.
-#[derive(Drop)]
+#[derive(Clone, Copy)]
 pub struct Rule {
     pub long: Long,
     pub names: Names,
@@ -52,7 +52,7 @@ pub struct Rule {
     pub act: Act,
 }
 
-#[derive(Drop)]
+#[derive(Clone, Copy)]
 pub enum Found {
     Nothing,
     Rule(Rule),

@@ -5,7 +5,7 @@ ghost use Rattle.rules.specs.Seal.{lets_do};
 use crate::rule::Act;
 
 // Its position, which is given with each call and kept nowhere.
-#[derive(Drop)]
+#[derive(Clone, Copy)]
 pub enum Switch {
     Unsealed,
     Sealed,

@@ -9,7 +9,7 @@ use crate::values::values_ok;
 use image::{Cell, Named};
 
 // Refused by a number; or accepted: how many data bytes the reply echoes, what is done, and with which stretch.
-#[derive(Drop)]
+#[derive(Clone, Copy)]
 pub enum Verdict {
     Refused(u8),
     Accepted(usize, Act, Cell),

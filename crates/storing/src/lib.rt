@@ -1,4 +1,6 @@
 // Storing bytes in a cell of the image, with the bit and the signature that go along; and what an item's signature is.
+#![tactic(auto)]
+
 mod signature;
 mod stored;
 

@@ -3,7 +3,7 @@ ghost use Rattle.survey.specs.Gather.{Opens};
 
 use text::piece_end;
 
-#[derive(Drop)]
+#[derive(Clone, Copy)]
 pub(crate) struct First {
     pub address: u8,
     pub table: u8,

@@ -6,14 +6,14 @@ use crate::sheet::Sheet;
 use text::piece_end;
 
 // Whether a piece is a frame, and what is then known.
-#[derive(Drop)]
+#[derive(Clone, Copy)]
 pub(crate) struct Taken {
     pub good: bool,
     pub sheet: Sheet,
 }
 
 // How many frames there are, 0 where some piece is none, and what they say.
-#[derive(Drop)]
+#[derive(Clone, Copy)]
 pub(crate) struct Read {
     pub frames: usize,
     pub sheet: Sheet,

@@ -1,4 +1,6 @@
 // A surveyor's table file, checked before it is sent.
+#![tactic(auto)]
+
 mod file;
 mod first;
 mod gather;

@@ -20,7 +20,7 @@ const LAST_PART: u8 = 11;
 
 // What the frames so far have said: that all are for one table, that no part came twice and none is outside 1..11, and which parts came, part p at
 // bit p - 1.
-#[derive(Drop)]
+#[derive(Clone, Copy)]
 pub(crate) struct Sheet {
     pub one: bool,
     pub once: bool,

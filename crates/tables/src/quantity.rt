@@ -8,7 +8,7 @@ use crate::rows::{LAST_ROW, level_of, never_fall, volume_at};
 use image::{Cell, held_parts, table_index};
 
 // The number, and the volume in the table's units.
-#[derive(Drop)]
+#[derive(Clone, Copy)]
 pub struct Quantity {
     pub number: u8,
     pub volume: u16,

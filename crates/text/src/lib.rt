@@ -1,4 +1,6 @@
 // Text, whoever reads or prints it: where it is cut into lines, and numbers in decimal.
+#![tactic(auto)]
+
 mod cut;
 mod decimal;
 

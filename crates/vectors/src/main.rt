@@ -1,5 +1,7 @@
 // Worked cases of the customer's rules, run: frames, an image and what is asked of it. The cases stand in `stdin`, whose first lines say what its
 // words do; `stdout` has what documents 01 and 02 say of them, a line for each line.
+#![tactic(auto)]
+
 mod answers;
 mod cells;
 mod images;

@@ -34,7 +34,7 @@ pub(crate) fn fill(s: &mut [u8], b: u8) {
 
 // A step as far as it is read: its letter, 0 without a word; the number with a colon; where the next byte goes and what the last one was; whether
 // a quote is open. Then the digits since, if there were any, and whether they stand behind an @.
-#[derive(Drop)]
+#[derive(Clone, Copy)]
 pub struct Step {
     pub letter: u8,
     pub number: u32,

@@ -1,5 +1,7 @@
 // Moving an image from one version to the other, for depots whose blocks hold version 1 and for old spares. The source is lent to be read alone; the
 // target is another buffer, and what it held does not matter. Both take every input and answer with the number alone.
+#![tactic(auto)]
+
 ghost use Rattle.std.specs.Prelude.{◌≡◌, ◌≤◌, length};
 ghost use Rattle.laws.specs.Bytes.{lay};
 ghost use Rattle.image.specs.declared.version.Version.TheVariants.{V1, V2};

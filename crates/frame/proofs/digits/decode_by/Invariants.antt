@@ -1,0 +1,25 @@
+-- The loop keeps whether all are digits, and where they are, what remains to be laid and to be added: the bytes of the characters from 2k on. Assumes
+-- nothing.
+use mathlib.Core.Path.{◌≡◌, refl, ◌∙◌}
+use mathlib.Core.Bool.{true, ◌&&◌}
+use Prim.Native.Nat.{◌+◌, ◌-◌, ◌*◌, ◌/◌, ◌%◌, ◌≤◌, ◌<◌}
+use native.Mathlib.Omega.{arith}
+use lib.ListN.{length, get_or, drop, length-set}
+use lib.Dec.{ltb}
+use borrow.Author.Rules.{rules}
+use Rattle.laws.specs.Bytes.{lay, sum_of}
+use Rattle.laws.proofs.Bytes.{lay_next, lay_done}
+use Rattle.laws.proofs.Sums.{sum_first, sum_empty}
+use Rattle.frame.specs.Digits.{all_digits, bytes_of}
+use Rattle.frame.proofs.Chars.{bytes_done}
+use Rattle.frame.proofs.Table.{entry_tells, told_next, byte_next, all_told}
+use Rattle.frame.proofs.digits.decode_by.Given as goal
+
+abbrev pub invariant-loop-k : goal.invariant-loop-k
+invariant-loop-k l =
+    (l.k ≤ length l.s / 2) × (length l.work ≡ length l.initial.work) × (l.total < 256) × ((ltb l.seen 16 && all_digits (drop (2 * l.k) l.s)) ≡ all_digits l.s)
+    × (all_digits l.s ≡ true → (l.total + sum_of (bytes_of (drop (2 * l.k) l.s))) % 256 ≡ sum_of (bytes_of l.s) % 256)
+    × (all_digits l.s ≡ true → lay l.work l.k (bytes_of (drop (2 * l.k) l.s)) ≡ lay l.initial.work 0 (bytes_of l.s))
+
+abbrev pub decreases-loop-k : goal.decreases-loop-k
+decreases-loop-k l = l.n - l.k

@@ -1,0 +1,27 @@
+-- An index below 16 is a table's, and a part's number lies in 1..11, below or above it. Assumes nothing.
+use mathlib.Core.Bool.{and-false}
+use native.Mathlib.Omega.{arith}
+use borrow.Author.Rules.{rules}
+use Rattle.laws.proofs.Tests.{within_in, within_below, within_above}
+use Rattle.image.specs.Cell.{when, part_named}
+use Rattle.image.proofs.Indices.{index_is, no_index}
+use Rattle.image.proofs.cell.Cell.part.Goals as goal
+
+pub returns-then-k-ge16 : goal.returns-then-k-ge16
+unfolding part_named when
+returns-then-k-ge16 c = rw (no_index _ _ c.table_index-k.ensures c.if-k-ge16.true)
+
+pub returns-in-1-to-11 : goal.returns-in-1-to-11
+unfolding part_named when
+returns-in-1-to-11 c =
+    let d = c in
+    let p = index_is _ _ d.table_index-k.ensures d.if-k-ge16.false in
+    rw (p.0, ← p.1, within_in 1 11 c.args.part (omega arith) (omega arith))
+
+pub returns-in_default : goal.returns-in_default
+unfolding part_named when
+returns-in_default c = rw (within_below 1 11 c.args.part (omega arith), and-false)
+
+pub returns-in_default-2 : goal.returns-in_default-2
+unfolding part_named when
+returns-in_default-2 c = rw (within_above 1 11 c.args.part (omega arith), and-false)

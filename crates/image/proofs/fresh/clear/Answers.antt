@@ -1,0 +1,15 @@
+-- The bytes passed are 0, and the rest is as it was. Assumes nothing.
+use mathlib.Core.Path.{◌≡◌, refl}
+use mathlib.Core.List.{◌++◌}
+use Prim.Native.Nat.{◌-◌, ◌≤◌}
+use native.Mathlib.Omega.{arith}
+use lib.ListN.{length, drop, length-set}
+use Rattle.laws.specs.Bytes.{zeros}
+use Rattle.image.proofs.FreshImage.{clear_none, clear_next, clear-done}
+use Rattle.image.proofs.fresh.clear.Goals as goal
+
+pub loop-i-init : goal.loop-i-init
+loop-i-init c = (omega arith, refl, clear_none _)
+
+pub loop-i-preserved : goal.loop-i-preserved
+loop-i-preserved c = let d = c in (omega arith, simp length-set d.loop-i.invariant.1, clear_next _ _ _ (omega arith) d.loop-i.invariant.2)

@@ -1,0 +1,26 @@
+-- The first check that fails decides; past both the cleared buffer is marked from the front. Assumes nothing.
+use mathlib.Core.Path.{refl}
+use native.Mathlib.Omega.{arith}
+use lib.ListN.{length-set}
+use borrow.Author.Rules.{rules}
+use borrow.Author.Tests.{eq-eqb, ne_eqb}
+use Rattle.laws.specs.Checks.{judged}
+use Rattle.image.specs.Fresh.{freshened}
+use Rattle.image.proofs.FreshImage.{fresh_is}
+use Rattle.image.proofs.fresh.freshen.Goals as goal
+
+pub returns-then-m-ne-IMAGE_LENGTH : goal.returns-then-m-ne-IMAGE_LENGTH
+unfolding freshened judged
+returns-then-m-ne-IMAGE_LENGTH c = rw (ne_eqb _ _ c.if-m-ne-IMAGE_LENGTH.true) (record { number_is = refl; image_is = refl })
+
+pub returns-then-address-eq0 : goal.returns-then-address-eq0
+unfolding freshened judged
+returns-then-address-eq0 c = rw (eq-eqb _ _ c.if-m-ne-IMAGE_LENGTH.false, eq-eqb _ _ c.if-address-eq0.true) (record { number_is = refl; image_is = refl })
+
+pub returns : goal.returns
+unfolding freshened judged
+returns c =
+    let t = c in
+    let m = t.args.m.now in
+    rw (eq-eqb _ _ t.if-m-ne-IMAGE_LENGTH.false, ne_eqb _ _ t.if-address-eq0.false, c.number.ensures)
+    (record { number_is = refl; image_is = fresh_is _ m _ t.if-m-ne-IMAGE_LENGTH.false c.clear.ensures })
