@@ -1,0 +1,20 @@
+-- The invariant: the answer so far and what remains, from byte b on, decide as the whole did. Assumes nothing.
+use mathlib.Core.Path.{◌≡◌, refl}
+use mathlib.Core.Bool.{◌&&◌, and_assoc, and-true}
+use Prim.Native.Nat.{◌+◌, ◌-◌, ◌≤◌}
+use native.Mathlib.Omega.{arith}
+use Rattle.rules.specs.Rules.{blank}
+use Rattle.rules.proofs.Judging.{blank_by, blank-done}
+use Rattle.rules.proofs.values.all_zero.Goals as goal
+
+pub loop-b-preserved : goal.loop-b-preserved
+loop-b-preserved c =
+    let h = c in
+    let a = h.args in
+    (omega arith, rw (← h.loop-b.invariant.1, blank_by a.body.now h.loop-b.b a.to (omega arith), ← and_assoc))
+
+pub returns : goal.returns
+returns c =
+    let h = c in
+    let a = h.args in
+    rw (blank-done a.body.now h.loop-b.b a.to (omega arith), and-true) at h.loop-b.invariant.1

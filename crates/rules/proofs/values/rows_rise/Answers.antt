@@ -1,0 +1,21 @@
+-- The invariant: the answer so far and the rows that remain, from index i on, decide as all did. Assumes nothing.
+use mathlib.Core.Path.{◌≡◌, refl}
+use mathlib.Core.Bool.{◌&&◌, and_assoc, and-true}
+use Prim.Native.Nat.{◌+◌, ◌-◌, ◌≤◌}
+use native.Mathlib.Omega.{arith}
+use lib.ListN.{length, drop}
+use borrow.Author.Rules.{rules}
+use Rattle.rules.specs.Rules.{rises}
+use Rattle.rules.proofs.Judging.{rises_by, rises-done}
+use Rattle.rules.proofs.values.rows_rise.Goals as goal
+
+pub loop-i-preserved : goal.loop-i-preserved
+loop-i-preserved c =
+    let h = c in
+    let s = h.args.body.now in
+    (omega arith, rw (c.is_colder-ok.ensures, ← h.loop-i.invariant.1, rises_by s h.loop-i.i (omega arith), ← and_assoc))
+
+pub returns : goal.returns
+returns c =
+    let h = c in
+    rw (rises-done h.args.body.now h.loop-i.i (omega arith), and-true) at h.loop-i.invariant.1

@@ -1,0 +1,46 @@
+-- The address first, then the command's rule and what the switch lets: each early return is the check that the definition has there; check 16 goes by
+-- the act. Assumes nothing.
+use mathlib.Core.Path.{sym, ap, ◌∙◌}
+use mathlib.Core.Bool.{true, false}
+use Prim.Native.Nat.{ℕ}
+use borrow.Author.Tests.{eq-eqb, ne_eqb, not-true, not-false}
+use borrow.Author.Rules.{rules}
+use Rattle.laws.specs.Checks.{judged}
+use Rattle.rules.specs.Rules.{commands, rule_of}
+use Rattle.rules.specs.Verdict.{sought, recognised}
+use Rattle.rules.proofs.Sealing.{switched}
+use Rattle.rules.proofs.verdict.recognise.Goals as goal
+
+pub returns-then-byte-address : goal.returns-then-byte-address
+unfolding recognised judged
+returns-then-byte-address c = rw (← c.byte.ensures, ne_eqb _ _ c.if-byte-address.true)
+
+pub returns-then-not-lets_do : goal.returns-then-not-lets_do
+returns-then-not-lets_do c =
+    let r = c in
+    let l = r in
+    switched _ _ _ _ (sym l.byte.ensures ∙ l.if-byte-address.false)
+    (ap (λ (k : ℕ). rule_of k commands) (sym r.byte-2.ensures) ∙ sym r.rule_of.ensures ∙ c.in-Rule.is)
+    false (sym c.lets_do.ensures ∙ not-true _ c.if-not-lets_do.true-raw)
+
+pub returns-in-Nothing : goal.returns-in-Nothing
+unfolding recognised sought judged
+returns-in-Nothing c =
+    let r = c in
+    let l = r in
+    rw (
+      ← l.byte.ensures,
+      eq-eqb _ _ l.if-byte-address.false,
+      ← r.byte-2.ensures,
+      sym r.rule_of.ensures ∙ c.in-Nothing.is,
+    )
+
+pub returns-else-not-lets_do : goal.returns-else-not-lets_do
+returns-else-not-lets_do c =
+    let e = c in
+    let r = e in
+    let l = r in
+    c.tried.ensures
+    ∙ switched _ _ _ _ (sym l.byte.ensures ∙ l.if-byte-address.false)
+    (ap (λ (k : ℕ). rule_of k commands) (sym r.byte-2.ensures) ∙ sym r.rule_of.ensures ∙ e.in-Rule.is)
+    true (sym e.lets_do.ensures ∙ not-false _ e.if-not-lets_do.false-raw)
