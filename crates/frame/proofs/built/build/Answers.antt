@@ -19,14 +19,9 @@ returns-then-out-n c = refused _ _ _ 2 (built_room _ _ c.if-n-lt2.false c.if-n-g
 
 pub end-requires : goal.end-requires
 end-requires c =
-    let p = c in
-    omega (arith, p.begin-start.ensures.opened.past, spells_past p.put_all-body.ensures)
+    omega (arith, c.begin-start.ensures.opened.past, spells_past c.put_all-body.ensures)
 
 pub returns : goal.returns
 returns c =
-    let e = c in
-    let p = e in
-    let b = p in
-    let t = b in
-    rw (built-done _ _ t.if-n-lt2.false t.if-n-gt132.false t.if-out-n.false)
-    (frame_written _ _ _ _ _ _ _ _ b.begin-start.ensures p.put_all-body.ensures e.end.ensures)
+    rw (built-done _ _ c.if-n-lt2.false c.if-n-gt132.false c.if-out-n.false)
+    (frame_written _ _ _ _ _ _ _ _ c.begin-start.ensures c.put_all-body.ensures c.end.ensures)

@@ -8,4 +8,4 @@ use Rattle.frame.proofs.digits.decode.Goals as goal
 
 pub decode_by-requires : goal.decode_by-requires
 unfolding reads_digits reads_at every is_digit within value_of
-decode_by-requires c = let s = c in (s.requires.0, s.requires.1, refl)
+decode_by-requires c = (c.requires.0, c.requires.1, refl)

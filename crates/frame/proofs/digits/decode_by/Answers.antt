@@ -17,22 +17,21 @@ use Rattle.frame.proofs.digits.decode_by.Goals as goal
 
 pub loop-k-preserved : goal.loop-k-preserved
 loop-k-preserved c =
-    let l = c in
-    let args = l.args in
+    let args = c.args in
     let s = args.s.now in
     let t = args.table.now in
-    let ok = l.requires.2 in
-    let k = l.loop-k.k in
+    let ok = c.requires.2 in
+    let k = c.loop-k.k in
     let p : get_or s (2 * k) 0 < 256 = omega (arith, c.shared_slice_known-in-loop-k-2-1.given (2 * k)) in
     let q : get_or s (2 * k + 1) 0 < 256 = omega (arith, c.shared_slice_known-in-loop-k-2-1.given (2 * k + 1)) in
     let more : 2 * k + 1 < length s = omega arith in
     let e : 2 * (k + 1) ≡ 2 * k + 2 = omega arith in (
       omega arith,
-      length-set l.loop-k.work k _ ∙ l.loop-k.invariant.1,
+      length-set c.loop-k.work k _ ∙ c.loop-k.invariant.1,
       omega (arith, c.added-total.ensures),
-      rw e (told_next s (2 * k) more l.loop-k.seen _ _ (entry_tells t ok _ p) (entry_tells t ok _ q) ∙ l.loop-k.invariant.3),
-      λ d. rw e (omega (arith, c.added-total.ensures, sum_first _ _ _ (byte_next s (2 * k) more t ok p q d), l.loop-k.invariant.4 d)),
-      λ d. rw e (lay_next _ _ _ _ _ _ (byte_next s (2 * k) more t ok p q d) (l.loop-k.invariant.5 d)),
+      rw e (told_next s (2 * k) more c.loop-k.seen _ _ (entry_tells t ok _ p) (entry_tells t ok _ q) ∙ c.loop-k.invariant.3),
+      λ d. rw e (omega (arith, c.added-total.ensures, sum_first _ _ _ (byte_next s (2 * k) more t ok p q d), c.loop-k.invariant.4 d)),
+      λ d. rw e (lay_next _ _ _ _ _ _ (byte_next s (2 * k) more t ok p q d) (c.loop-k.invariant.5 d)),
     )
 
 pub returns : goal.returns

@@ -7,6 +7,4 @@ use Rattle.frame.proofs.writer.put_byte.Goals as goal
 pub returns : goal.returns
 unfolding chars_of
 returns c =
-    let p2 = c in
-    let p1 = p2 in
-    rw (← p1.char_of.ensures, ← p2.char_of-2.ensures) (laid_then _ _ _ _ _ _ _ _ p1.put-next.ensures p2.put.ensures)
+    rw (← c.char_of.ensures, ← c.char_of-2.ensures) (laid_then _ _ _ _ _ _ _ _ c.put-next.ensures c.put.ensures)

@@ -12,4 +12,4 @@ pub loop-i-init : goal.loop-i-init
 loop-i-init c = (omega arith, refl, clear_none _)
 
 pub loop-i-preserved : goal.loop-i-preserved
-loop-i-preserved c = let d = c in (omega arith, simp length-set d.loop-i.invariant.1, clear_next _ _ _ (omega arith) d.loop-i.invariant.2)
+loop-i-preserved c = (omega arith, simp length-set c.loop-i.invariant.1, clear_next _ _ _ (omega arith) c.loop-i.invariant.2)

@@ -20,7 +20,6 @@ returns-then-address-eq0 c = rw (eq-eqb _ _ c.if-m-ne-IMAGE_LENGTH.false, eq-eqb
 pub returns : goal.returns
 unfolding freshened judged
 returns c =
-    let t = c in
-    let m = t.args.m.now in
-    rw (eq-eqb _ _ t.if-m-ne-IMAGE_LENGTH.false, ne_eqb _ _ t.if-address-eq0.false, c.number.ensures)
-    (record { number_is = refl; image_is = fresh_is _ m _ t.if-m-ne-IMAGE_LENGTH.false c.clear.ensures })
+    let m = c.args.m.now in
+    rw (eq-eqb _ _ c.if-m-ne-IMAGE_LENGTH.false, ne_eqb _ _ c.if-address-eq0.false, c.number.ensures)
+    (record { number_is = refl; image_is = fresh_is _ m _ c.if-m-ne-IMAGE_LENGTH.false c.clear.ensures })

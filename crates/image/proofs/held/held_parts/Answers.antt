@@ -38,6 +38,5 @@ pub returns : goal.returns
 unfolding held_parts judged table_word
 returns c =
     let good : usable current c.args.m.now ≡ true = sym c.is_usable.ensures ∙ not-false _ c.if-not-is_usable.false-raw in
-    let d = c in
-    let p = index_is _ _ d.table_index-k.ensures (omega arith) in
+    let p = index_is _ _ c.table_index-k.ensures (omega arith) in
     rw (good, p.0, ← p.1, ← c.word_at.ensures) c.held_of.ensures

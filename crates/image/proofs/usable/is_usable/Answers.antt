@@ -32,9 +32,6 @@ pub returns : goal.returns
 unfolding usable address_ok
 returns c =
     let long : length c.args.m.now ≡ image_length c.args.version = rw c.length.ensures at c.if-m-length.false in
-    let u = c in
-    let a = u in
-    let t = a in
-    let mark = sym t.mark_ok.ensures ∙ not-false _ t.if-not-mark_ok.false-raw in
-    let counts = sym u.counts_ok.ensures ∙ not-false _ u.if-not-counts_ok.false-raw in
-    rw (eq-eqb _ _ (long), mark, ne_eqb _ _ a.if-m-eq0.false, counts) c.words_ok.ensures
+    let mark = sym c.mark_ok.ensures ∙ not-false _ c.if-not-mark_ok.false-raw in
+    let counts = sym c.counts_ok.ensures ∙ not-false _ c.if-not-counts_ok.false-raw in
+    rw (eq-eqb _ _ (long), mark, ne_eqb _ _ c.if-m-eq0.false, counts) c.words_ok.ensures

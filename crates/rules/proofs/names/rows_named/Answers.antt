@@ -9,5 +9,4 @@ returns-then-count-body c = rows_uncounted _ _ c.byte-count.ensures c.if-count-b
 
 pub returns : goal.returns
 returns c =
-    let e = c in
-    c.errors.ensures ∙ rows-counted _ _ e.byte-count.ensures _ e.if-count-body.false c.byte.ensures
+    c.errors.ensures ∙ rows-counted _ _ c.byte-count.ensures _ c.if-count-body.false c.byte.ensures

@@ -9,12 +9,10 @@ use Rattle.rules.proofs.values.all_zero.Goals as goal
 
 pub loop-b-preserved : goal.loop-b-preserved
 loop-b-preserved c =
-    let h = c in
-    let a = h.args in
-    (omega arith, rw (← h.loop-b.invariant.1, blank_by a.body.now h.loop-b.b a.to (omega arith), ← and_assoc))
+    let a = c.args in
+    (omega arith, rw (← c.loop-b.invariant.1, blank_by a.body.now c.loop-b.b a.to (omega arith), ← and_assoc))
 
 pub returns : goal.returns
 returns c =
-    let h = c in
-    let a = h.args in
-    rw (blank-done a.body.now h.loop-b.b a.to (omega arith), and-true) at h.loop-b.invariant.1
+    let a = c.args in
+    rw (blank-done a.body.now c.loop-b.b a.to (omega arith), and-true) at c.loop-b.invariant.1

@@ -11,11 +11,9 @@ use Rattle.rules.proofs.values.rows_rise.Goals as goal
 
 pub loop-i-preserved : goal.loop-i-preserved
 loop-i-preserved c =
-    let h = c in
-    let s = h.args.body.now in
-    (omega arith, rw (c.is_colder-ok.ensures, ← h.loop-i.invariant.1, rises_by s h.loop-i.i (omega arith), ← and_assoc))
+    let s = c.args.body.now in
+    (omega arith, rw (c.is_colder-ok.ensures, ← c.loop-i.invariant.1, rises_by s c.loop-i.i (omega arith), ← and_assoc))
 
 pub returns : goal.returns
 returns c =
-    let h = c in
-    rw (rises-done h.args.body.now h.loop-i.i (omega arith), and-true) at h.loop-i.invariant.1
+    rw (rises-done c.args.body.now c.loop-i.i (omega arith), and-true) at c.loop-i.invariant.1

@@ -17,30 +17,23 @@ returns-then-byte-address c = rw (← c.byte.ensures, ne_eqb _ _ c.if-byte-addre
 
 pub returns-then-not-lets_do : goal.returns-then-not-lets_do
 returns-then-not-lets_do c =
-    let r = c in
-    let l = r in
-    switched _ _ _ _ (sym l.byte.ensures ∙ l.if-byte-address.false)
-    (ap (λ (k : ℕ). rule_of k commands) (sym r.byte-2.ensures) ∙ sym r.rule_of.ensures ∙ c.in-Rule.is)
+    switched _ _ _ _ (sym c.byte.ensures ∙ c.if-byte-address.false)
+    (ap (λ (k : ℕ). rule_of k commands) (sym c.byte-2.ensures) ∙ sym c.rule_of.ensures ∙ c.in-Rule.is)
     false (sym c.lets_do.ensures ∙ not-true _ c.if-not-lets_do.true-raw)
 
 pub returns-in-Nothing : goal.returns-in-Nothing
 unfolding recognised sought judged
 returns-in-Nothing c =
-    let r = c in
-    let l = r in
     rw (
-      ← l.byte.ensures,
-      eq-eqb _ _ l.if-byte-address.false,
-      ← r.byte-2.ensures,
-      sym r.rule_of.ensures ∙ c.in-Nothing.is,
+      ← c.byte.ensures,
+      eq-eqb _ _ c.if-byte-address.false,
+      ← c.byte-2.ensures,
+      sym c.rule_of.ensures ∙ c.in-Nothing.is,
     )
 
 pub returns-else-not-lets_do : goal.returns-else-not-lets_do
 returns-else-not-lets_do c =
-    let e = c in
-    let r = e in
-    let l = r in
     c.tried.ensures
-    ∙ switched _ _ _ _ (sym l.byte.ensures ∙ l.if-byte-address.false)
-    (ap (λ (k : ℕ). rule_of k commands) (sym r.byte-2.ensures) ∙ sym r.rule_of.ensures ∙ e.in-Rule.is)
-    true (sym e.lets_do.ensures ∙ not-false _ e.if-not-lets_do.false-raw)
+    ∙ switched _ _ _ _ (sym c.byte.ensures ∙ c.if-byte-address.false)
+    (ap (λ (k : ℕ). rule_of k commands) (sym c.byte-2.ensures) ∙ sym c.rule_of.ensures ∙ c.in-Rule.is)
+    true (sym c.lets_do.ensures ∙ not-false _ c.if-not-lets_do.false-raw)

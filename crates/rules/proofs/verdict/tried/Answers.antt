@@ -13,28 +13,22 @@ returns-then-not-long_ok c = rw (sym c.long_ok.ensures ∙ not-true _ c.if-not-l
 pub returns-then-not-values_ok : goal.returns-then-not-values_ok
 unfolding tried judged
 returns-then-not-values_ok c =
-    let n = c in
-    let l = n in
     rw (
-      sym l.long_ok.ensures ∙ not-false _ l.if-not-long_ok.false-raw,
-      sym n.named_by.ensures ∙ c.in-Cell.is,
+      sym c.long_ok.ensures ∙ not-false _ c.if-not-long_ok.false-raw,
+      sym c.named_by.ensures ∙ c.in-Cell.is,
       sym c.values_ok.ensures ∙ not-true _ c.if-not-values_ok.true-raw,
     )
 
 pub returns-in-Nothing : goal.returns-in-Nothing
 unfolding tried judged
 returns-in-Nothing c =
-    let n = c in
-    let l = n in
-    rw (sym l.long_ok.ensures ∙ not-false _ l.if-not-long_ok.false-raw, sym n.named_by.ensures ∙ c.in-Nothing.is)
+    rw (sym c.long_ok.ensures ∙ not-false _ c.if-not-long_ok.false-raw, sym c.named_by.ensures ∙ c.in-Nothing.is)
 
 pub returns-else-not-values_ok : goal.returns-else-not-values_ok
 unfolding tried judged
 returns-else-not-values_ok c =
-    let n = c in
-    let l = n in
     rw (
-      sym l.long_ok.ensures ∙ not-false _ l.if-not-long_ok.false-raw,
-      sym n.named_by.ensures ∙ c.in-Cell.is,
+      sym c.long_ok.ensures ∙ not-false _ c.if-not-long_ok.false-raw,
+      sym c.named_by.ensures ∙ c.in-Cell.is,
       sym c.values_ok.ensures ∙ not-false _ c.if-not-values_ok.false-raw,
     )

@@ -16,9 +16,8 @@ use Rattle.storing.proofs.signature.full_sum.Goals as goal
 pub returns : goal.returns
 unfolding full_sum
 returns c =
-    let z = c in
-    let o = z.offset-start in
+    let o = c.offset-start in
     let a = o.ensures in
-    let n = z.size.ensures in
+    let n = c.size.ensures in
     c.sum.ensures
-    ∙ rw (← a, ← n) (ap (λ (l : List ℕ). sum_of l % 65536) (slice_is o.result (o.result + z.size.result) _ _ (omega arith)))
+    ∙ rw (← a, ← n) (ap (λ (l : List ℕ). sum_of l % 65536) (slice_is o.result (o.result + c.size.result) _ _ (omega arith)))

@@ -9,9 +9,8 @@ use Rattle.storing.proofs.signature.sum.Goals as goal
 
 pub loop-i-preserved : goal.loop-i-preserved
 loop-i-preserved c =
-    let t = c in
-    let next = sum_next t.args.item.now t.loop-i.i c.loop-i-test.true in
-    (omega arith, omega (arith, c.shared_slice_known-1.given t.loop-i.i), omega (arith, next))
+    let next = sum_next c.args.item.now c.loop-i.i c.loop-i-test.true in
+    (omega arith, omega (arith, c.shared_slice_known-1.given c.loop-i.i), omega (arith, next))
 
 pub returns : goal.returns
 returns c =

@@ -7,15 +7,6 @@ use Rattle.storing.proofs.stored.amend.Goals as goal
 
 pub returns-in-At : goal.returns-in-At
 returns-in-At c =
-    let p = c in
-    let r = p in
-    let x = r in
-    let came = x in
-    let left = came in
-    let n = left in
-    let k = n in
-    let w = k in
-    let s = w in
-    amended_is s.args.cell s.args.m.now s.args.bytes.now (word_found s.args.cell w.signature_word-kept.ensures k.in-At.is)
-    n.offset-start.ensures n.size-size.ensures left.sum-left.ensures came.sum-came.ensures x.word_at-w.ensures r.amended.ensures
-    p.put_word.ensures
+    amended_is c.args.cell c.args.m.now c.args.bytes.now (word_found c.args.cell c.signature_word-kept.ensures c.in-At.is)
+    c.offset-start.ensures c.size-size.ensures c.sum-left.ensures c.sum-came.ensures c.word_at-w.ensures c.amended.ensures
+    c.put_word.ensures

@@ -7,11 +7,6 @@ use Rattle.storing.proofs.stored.store.Goals as goal
 
 pub returns : goal.returns
 returns c =
-    let z = c in
-    let p = z in
-    let a = p in
-    let f = a in
-    let s = f in
     c.put_bits.ensures
-    ∙ stored_is s.args.cell _ s.args.bytes.now s.requires.0 s.requires.1 a.offset.ensures z.size.ensures
-    p.put_bytes-past.ensures.past f.amend.ensures p.put_bytes-past.ensures.laid z.put_zeros.ensures.laid
+    ∙ stored_is c.args.cell _ c.args.bytes.now c.requires.0 c.requires.1 c.offset.ensures c.size.ensures
+    c.put_bytes-past.ensures.past c.amend.ensures c.put_bytes-past.ensures.laid c.put_zeros.ensures.laid

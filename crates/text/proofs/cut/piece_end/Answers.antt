@@ -9,13 +9,11 @@ use Rattle.text.proofs.cut.piece_end.Goals as goal
 
 pub returns-then-input-i-eq10 : goal.returns-then-input-i-eq10
 returns-then-input-i-eq10 c =
-    let l = c in
-    sym (end_here _ _ c.loop-i-test.true c.if-input-i-eq10.true) ∙ l.loop-i.invariant
+    sym (end_here _ _ c.loop-i-test.true c.if-input-i-eq10.true) ∙ c.loop-i.invariant
 
 pub loop-i-preserved : goal.loop-i-preserved
 loop-i-preserved c =
-    let l = c in
-    end_later _ _ c.loop-i-test.true c.if-input-i-eq10.false ∙ l.loop-i.invariant
+    end_later _ _ c.loop-i-test.true c.if-input-i-eq10.false ∙ c.loop-i.invariant
 
 pub returns : goal.returns
 returns c = sym (end_none _ _ c.loop-i-test.false) ∙ c.loop-i.invariant

@@ -13,17 +13,15 @@ use Rattle.frame.proofs.writer.Writer.put_all.Goals as goal
 pub loop-i-preserved : goal.loop-i-preserved
 unfolding chars_of sum_of
 loop-i-preserved c =
-    let p = c in
-    let d = p in
-    let l = d.loop-i in
-    let s = p.put-w.ensures in
-    let more = d.loop-i-test.true in (
+    let l = c.loop-i in
+    let s = c.put-w.ensures in
+    let more = c.loop-i-test.true in (
       omega arith,
       omega (arith, s.spelt.past),
       omega arith,
       lay_more _ _ _ _ _ _ _ _ (chars_next _ _ more) s.spelt.laid s.spelt.past l.invariant.3,
       omega (arith, s.total_is),
-      omega (arith, s.total_is, l.invariant.5, sum_next d.args.src.now l.i more),
+      omega (arith, s.total_is, l.invariant.5, sum_next c.args.src.now l.i more),
     )
 
 pub returns : goal.returns

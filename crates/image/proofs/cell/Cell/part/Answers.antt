@@ -14,8 +14,7 @@ returns-then-k-ge16 c = rw (no_index _ _ c.table_index-k.ensures c.if-k-ge16.tru
 pub returns-in-1-to-11 : goal.returns-in-1-to-11
 unfolding part_named when
 returns-in-1-to-11 c =
-    let d = c in
-    let p = index_is _ _ d.table_index-k.ensures d.if-k-ge16.false in
+    let p = index_is _ _ c.table_index-k.ensures c.if-k-ge16.false in
     rw (p.0, ← p.1, within_in 1 11 c.args.part (omega arith) (omega arith))
 
 pub returns-in_default : goal.returns-in_default
