@@ -11,13 +11,8 @@ use Rattle.desk_run.proofs.input.start.Goals as goal
 pub returns-then-n-gt-INPUT_MOST : goal.returns-then-n-gt-INPUT_MOST
 unfolding too_long_line codes
 returns-then-n-gt-INPUT_MOST c =
-    let p = c in
-    let a = p in
-    starts_long _ a.args.n _ _ a.requires _ _ (omega arith) p.put_all-end.ensures
+    starts_long _ c.args.n _ _ c.requires _ _ (omega arith) c.put_all-end.ensures
 
 pub returns : goal.returns
 returns c =
-    let r = c in
-    let f = r in
-    let a = f in
-    starts-short _ a.args.n _ _ a.requires _ _ _ _ _ (omega arith) f.fresh.ensures r.run.ensures
+    starts-short _ c.args.n _ _ c.requires _ _ _ _ _ (omega arith) c.fresh.ensures c.run.ensures

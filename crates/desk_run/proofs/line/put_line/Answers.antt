@@ -9,23 +9,17 @@ use Rattle.desk_run.proofs.line.put_line.Goals as goal
 
 pub put_decimal-digits-requires : goal.put_decimal-digits-requires
 put_decimal-digits-requires c =
-    let s = c in
-    omega (arith, length-line s.args.number s.args.reply.now)
+    omega (arith, length-line c.args.number c.args.reply.now)
 
 pub put_shown-body-requires : goal.put_shown-body-requires
 put_shown-body-requires c =
-    let s = c in
-    omega (arith, length-line s.args.number s.args.reply.now)
+    omega (arith, length-line c.args.number c.args.reply.now)
 
 pub put-requires : goal.put-requires
 put-requires c =
-    let s = c in
-    omega (arith, length-line s.args.number s.args.reply.now)
+    omega (arith, length-line c.args.number c.args.reply.now)
 
 pub returns : goal.returns
 unfolding line_of
 returns c =
-    let r = c in
-    let q = r in
-    let p = q in
-    laid_then _ _ _ _ _ _ _ _ p.put_decimal-digits.ensures (laid_then _ _ _ _ _ _ _ (10 ∷ []) q.put_shown-body.ensures r.put.ensures)
+    laid_then _ _ _ _ _ _ _ _ c.put_decimal-digits.ensures (laid_then _ _ _ _ _ _ _ (10 ∷ []) c.put_shown-body.ensures c.put.ensures)

@@ -19,17 +19,13 @@ put-space-requires c =
 
 pub returns-then-reply-lt2 : goal.returns-then-reply-lt2
 returns-then-reply-lt2 c =
-    let p = c in
-    rw (shown-short _ _ p.if-number-ne0.false c.if-reply-lt2.true) p.put-space.ensures
+    rw (shown-short _ _ c.if-number-ne0.false c.if-reply-lt2.true) c.put-space.ensures
 
 pub put_all-requires : goal.put_all-requires
 put_all-requires c =
-    let e = c in
-    let r = e.args.reply.now in
-    omega (arith, ap length (shown-done _ r e.if-number-ne0.false))
+    let r = c.args.reply.now in
+    omega (arith, ap length (shown-done _ r c.if-number-ne0.false))
 
 pub returns : goal.returns
 returns c =
-    let q = c in
-    let p = q in
-    rw (shown-done _ _ p.if-number-ne0.false) (laid_then _ _ _ _ _ _ (32 ∷ []) _ p.put-space.ensures q.put_all.ensures)
+    rw (shown-done _ _ c.if-number-ne0.false) (laid_then _ _ _ _ _ _ (32 ∷ []) _ c.put-space.ensures c.put_all.ensures)

@@ -19,51 +19,24 @@ use Rattle.desk_run.proofs.piece.put_piece.Goals as goal
 pub slice_bounds-reply-end : goal.slice_bounds-reply-end
 unfolding zeros
 slice_bounds-reply-end c =
-    let P : List ℕ = c.args.piece.now in
-    let M : List ℕ = c.args.m.now in
-    let Left : List ℕ = c.serve-answer.new.1.1.0 in
-    let Out : List ℕ = c.serve-answer.new.1.1.1.0 in
-    let promise : Serves (served (heard Unsealed) current (P) (M) (zeros 269)) c.serve-answer.result (Left) (Out) = c.serve-answer.ensures in
-    let short : c.serve-answer.result.len ≤ 269 = reply_short current (P) (M) c.serve-answer.result (Left) (Out) (promise) in
-    let long : length (Out) ≡ 269 = reply_long current (P) (M) c.serve-answer.result (Left) (Out) (promise) in
-    let d = c in
-    omega (arith, short d, long)
+    let p = c.serve-answer.ensures in
+    omega (arith, reply_short current _ _ _ _ _ p, reply_long current _ _ _ _ _ p)
 
 pub slice_bounds-put_line-end : goal.slice_bounds-put_line-end
 unfolding zeros
 slice_bounds-put_line-end c =
-    let P : List ℕ = c.args.piece.now in
-    let M : List ℕ = c.args.m.now in
-    let Left : List ℕ = c.serve-answer.new.1.1.0 in
-    let Out : List ℕ = c.serve-answer.new.1.1.1.0 in
-    let promise : Serves (served (heard Unsealed) current (P) (M) (zeros 269)) c.serve-answer.result (Left) (Out) = c.serve-answer.ensures in
-    let short : c.serve-answer.result.len ≤ 269 = reply_short current (P) (M) c.serve-answer.result (Left) (Out) (promise) in
-    let long : length (Out) ≡ 269 = reply_long current (P) (M) c.serve-answer.result (Left) (Out) (promise) in
-    let d = c in
-    sym (length-take-le _ _ (omega (arith, short d, long)))
+    let p = c.serve-answer.ensures in
+    sym (length-take-le _ _ (omega (arith, reply_short current _ _ _ _ _ p, reply_long current _ _ _ _ _ p)))
 
 pub put_line-requires : goal.put_line-requires
 unfolding zeros
 put_line-requires c =
-    let P : List ℕ = c.args.piece.now in
-    let M : List ℕ = c.args.m.now in
-    let Left : List ℕ = c.serve-answer.new.1.1.0 in
-    let Out : List ℕ = c.serve-answer.new.1.1.1.0 in
-    let promise : Serves (served (heard Unsealed) current (P) (M) (zeros 269)) c.serve-answer.result (Left) (Out) = c.serve-answer.ensures in
-    let few : c.serve-answer.result.number < 100 = reply_number current (P) (M) c.serve-answer.result (Left) (Out) (promise) in
-    let long : length (Out) ≡ 269 = reply_long current (P) (M) c.serve-answer.result (Left) (Out) (promise) in
-    let d = c in
-    omega (arith, line-short d.serve-answer.result.number d.serve-answer.result.len (Out) (few) (long))
+    let p = c.serve-answer.ensures in
+    omega (arith, line-short _ c.serve-answer.result.len _ (reply_number current _ _ _ _ _ p) (reply_long current _ _ _ _ _ p))
 
 pub returns : goal.returns
 unfolding left zeros
 returns c =
-    let P : List ℕ = c.args.piece.now in
-    let M : List ℕ = c.args.m.now in
-    let Left : List ℕ = c.serve-answer.new.1.1.0 in
-    let Out : List ℕ = c.serve-answer.new.1.1.1.0 in
-    let promise : Serves (served (heard Unsealed) current (P) (M) (zeros 269)) c.serve-answer.result (Left) (Out) = c.serve-answer.ensures in
-    let l = c in
-    let d = l in
-    let e = line_is current (P) (M) d.serve-answer.result (Left) (Out) (promise) in
-    (rw e at l.put_line.ensures, (promise).image_is)
+    let p = c.serve-answer.ensures in
+    let e = line_is current _ _ _ _ _ p in
+    (rw e at c.put_line.ensures, p.image_is)

@@ -12,49 +12,39 @@ returns-then-file-gt-FILE_MOST c = sym (too_long_is_17 _ c.if-file-gt-FILE_MOST.
 
 pub returns-then-read-ne-FRAMES : goal.returns-then-read-ne-FRAMES
 returns-then-read-ne-FRAMES c =
-    let r = c in
-    let o = r in
-    sym (frames_wrong (known o.if-file-gt-FILE_MOST.false o.first_of-first.ensures r.read_all-read.ensures) c.if-read-ne-FRAMES.true)
+    sym (frames_wrong (known c.if-file-gt-FILE_MOST.false c.first_of-first.ensures c.read_all-read.ensures) c.if-read-ne-FRAMES.true)
 
 pub returns-then-not-sheet : goal.returns-then-not-sheet
 returns-then-not-sheet c =
-    let read : (e : tie.Else2) → let r = e in let o = r in let a = o.args in Known a.file.now a.rows-1.now r.read_all-read.new.1.1.1.0 o.first_of-first.result r.read_all-read.result = λ e. let r = e in let o = r in known o.if-file-gt-FILE_MOST.false o.first_of-first.ensures r.read_all-read.ensures in
-    let e = c in sym (stranger (read e) e.if-read-ne-FRAMES.false (not-true _ c.if-not-sheet.true))
+    let read : let a = c.args in Known a.file.now a.rows.now c.read_all-read.new.rows c.first_of-first.result c.read_all-read.result = known c.if-file-gt-FILE_MOST.false c.first_of-first.ensures c.read_all-read.ensures in
+    sym (stranger read c.if-read-ne-FRAMES.false (not-true _ c.if-not-sheet.true))
 
 pub returns-then-first-eq0 : goal.returns-then-first-eq0
 returns-then-first-eq0 c =
-    let read : (e : tie.Else2) → let r = e in let o = r in let a = o.args in Known a.file.now a.rows-1.now r.read_all-read.new.1.1.1.0 o.first_of-first.result r.read_all-read.result = λ e. let r = e in let o = r in known o.if-file-gt-FILE_MOST.false o.first_of-first.ensures r.read_all-read.ensures in
-    let e = c in sym (address_0 (read e) e.if-read-ne-FRAMES.false c.if-first-eq0.true)
+    let read : let a = c.args in Known a.file.now a.rows.now c.read_all-read.new.rows c.first_of-first.result c.read_all-read.result = known c.if-file-gt-FILE_MOST.false c.first_of-first.ensures c.read_all-read.ensures in
+    sym (address_0 read c.if-read-ne-FRAMES.false c.if-first-eq0.true)
 
 pub returns-then-table_index-ge-TABLES : goal.returns-then-table_index-ge-TABLES
 returns-then-table_index-ge-TABLES c =
-    let read : (e : tie.Else2) → let r = e in let o = r in let a = o.args in Known a.file.now a.rows-1.now r.read_all-read.new.1.1.1.0 o.first_of-first.result r.read_all-read.result = λ e. let r = e in let o = r in known o.if-file-gt-FILE_MOST.false o.first_of-first.ensures r.read_all-read.ensures in
-    let t = c in
-    let e = t in
-    sym (no_table (read e) e.if-read-ne-FRAMES.false (no_index _ _ t.table_index.ensures c.if-table_index-ge-TABLES.true))
+    let read : let a = c.args in Known a.file.now a.rows.now c.read_all-read.new.rows c.first_of-first.result c.read_all-read.result = known c.if-file-gt-FILE_MOST.false c.first_of-first.ensures c.read_all-read.ensures in
+    sym (no_table read c.if-read-ne-FRAMES.false (no_index _ _ c.table_index.ensures c.if-table_index-ge-TABLES.true))
 
 pub returns-then-not-sheet-2 : goal.returns-then-not-sheet-2
 returns-then-not-sheet-2 c =
-    let read : (e : tie.Else2) → let r = e in let o = r in let a = o.args in Known a.file.now a.rows-1.now r.read_all-read.new.1.1.1.0 o.first_of-first.result r.read_all-read.result = λ e. let r = e in let o = r in known o.if-file-gt-FILE_MOST.false o.first_of-first.ensures r.read_all-read.ensures in
-    let passed : (f : tie.Else5) → let e = f in let r = e in let o = r in let a = o.args in Tabled a.file.now a.rows-1.now r.read_all-read.new.1.1.1.0 o.first_of-first.result r.read_all-read.result = λ f. let t = f in let k = t in let i = k in let e = i in tabled (read e) e.if-read-ne-FRAMES.false (not-false _ i.if-not-sheet.false) k.if-first-eq0.false (index_is _ _ t.table_index.ensures f.if-table_index-ge-TABLES.false).0 in
-    sym (part_again (passed c) (not-true _ c.if-not-sheet-2.true))
+    let read : let a = c.args in Known a.file.now a.rows.now c.read_all-read.new.rows c.first_of-first.result c.read_all-read.result = known c.if-file-gt-FILE_MOST.false c.first_of-first.ensures c.read_all-read.ensures in
+    let passed : let a = c.args in Tabled a.file.now a.rows.now c.read_all-read.new.rows c.first_of-first.result c.read_all-read.result = tabled read c.if-read-ne-FRAMES.false (not-false _ c.if-not-sheet.false) c.if-first-eq0.false (index_is _ _ c.table_index.ensures c.if-table_index-ge-TABLES.false).0 in
+    sym (part_again passed (not-true _ c.if-not-sheet-2.true))
 
 pub returns-then-not-rise_then_stay : goal.returns-then-not-rise_then_stay
 returns-then-not-rise_then_stay c =
-    let read : (e : tie.Else2) → let r = e in let o = r in let a = o.args in Known a.file.now a.rows-1.now r.read_all-read.new.1.1.1.0 o.first_of-first.result r.read_all-read.result = λ e. let r = e in let o = r in known o.if-file-gt-FILE_MOST.false o.first_of-first.ensures r.read_all-read.ensures in
-    let passed : (f : tie.Else5) → let e = f in let r = e in let o = r in let a = o.args in Tabled a.file.now a.rows-1.now r.read_all-read.new.1.1.1.0 o.first_of-first.result r.read_all-read.result = λ f. let t = f in let k = t in let i = k in let e = i in tabled (read e) e.if-read-ne-FRAMES.false (not-false _ i.if-not-sheet.false) k.if-first-eq0.false (index_is _ _ t.table_index.ensures f.if-table_index-ge-TABLES.false).0 in
-    let w = c in
-    let o = w in
-    let e = o in
-    let room = e.requires in
-    sym (rows_fall (passed o) (not-false _ o.if-not-sheet-2.false) room (sym w.rise_then_stay.ensures ∙ not-true _ c.if-not-rise_then_stay.true-raw))
+    let read : let a = c.args in Known a.file.now a.rows.now c.read_all-read.new.rows c.first_of-first.result c.read_all-read.result = known c.if-file-gt-FILE_MOST.false c.first_of-first.ensures c.read_all-read.ensures in
+    let passed : let a = c.args in Tabled a.file.now a.rows.now c.read_all-read.new.rows c.first_of-first.result c.read_all-read.result = tabled read c.if-read-ne-FRAMES.false (not-false _ c.if-not-sheet.false) c.if-first-eq0.false (index_is _ _ c.table_index.ensures c.if-table_index-ge-TABLES.false).0 in
+    let room = c.requires in
+    sym (rows_fall passed (not-false _ c.if-not-sheet-2.false) room (sym c.rise_then_stay.ensures ∙ not-true _ c.if-not-rise_then_stay.true-raw))
 
 pub returns : goal.returns
 returns c =
-    let read : (e : tie.Else2) → let r = e in let o = r in let a = o.args in Known a.file.now a.rows-1.now r.read_all-read.new.1.1.1.0 o.first_of-first.result r.read_all-read.result = λ e. let r = e in let o = r in known o.if-file-gt-FILE_MOST.false o.first_of-first.ensures r.read_all-read.ensures in
-    let passed : (f : tie.Else5) → let e = f in let r = e in let o = r in let a = o.args in Tabled a.file.now a.rows-1.now r.read_all-read.new.1.1.1.0 o.first_of-first.result r.read_all-read.result = λ f. let t = f in let k = t in let i = k in let e = i in tabled (read e) e.if-read-ne-FRAMES.false (not-false _ i.if-not-sheet.false) k.if-first-eq0.false (index_is _ _ t.table_index.ensures f.if-table_index-ge-TABLES.false).0 in
-    let w = c in
-    let o = w in
-    let e = o in
-    let room = e.requires in
-    sym (rows_rise (passed o) (not-false _ o.if-not-sheet-2.false) room (sym w.rise_then_stay.ensures ∙ not-false _ c.if-not-rise_then_stay.false-raw))
+    let read : let a = c.args in Known a.file.now a.rows.now c.read_all-read.new.rows c.first_of-first.result c.read_all-read.result = known c.if-file-gt-FILE_MOST.false c.first_of-first.ensures c.read_all-read.ensures in
+    let passed : let a = c.args in Tabled a.file.now a.rows.now c.read_all-read.new.rows c.first_of-first.result c.read_all-read.result = tabled read c.if-read-ne-FRAMES.false (not-false _ c.if-not-sheet.false) c.if-first-eq0.false (index_is _ _ c.table_index.ensures c.if-table_index-ge-TABLES.false).0 in
+    let room = c.requires in
+    sym (rows_rise passed (not-false _ c.if-not-sheet-2.false) room (sym c.rise_then_stay.ensures ∙ not-false _ c.if-not-rise_then_stay.false-raw))

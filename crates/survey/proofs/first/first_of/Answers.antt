@@ -9,20 +9,15 @@ use Rattle.survey.proofs.first.first_of.Goals as goal
 
 pub slice_bounds-read_into-end : goal.slice_bounds-read_into-end
 slice_bounds-read_into-end c =
-    let p = c in
-    let s = p.args.file.now in
-    sym (length-take-le p.piece_end-end.result s (omega (arith, p.piece_end-end.ensures, end_most s 0)))
+    let s = c.args.file.now in
+    sym (length-take-le c.piece_end-end.result s (omega (arith, c.piece_end-end.ensures, end_most s 0)))
 
 pub returns-then-taken-lt3 : goal.returns-then-taken-lt3
 returns-then-taken-lt3 c =
-    let r = c in
-    let p = r in
-    let s = p.args.file.now in
-    opens_short r.read_into-taken.ensures s (first_cut s _ p.piece_end-end.ensures) _ refl refl c.if-taken-lt3.true
+    let s = c.args.file.now in
+    opens_short c.read_into-taken.ensures s (first_cut s _ c.piece_end-end.ensures) _ refl refl c.if-taken-lt3.true
 
 pub returns-else-taken-lt3 : goal.returns-else-taken-lt3
 returns-else-taken-lt3 c =
-    let r = c in
-    let p = r in
-    let s = p.args.file.now in
-    opens_long r.read_into-taken.ensures s (first_cut s _ p.piece_end-end.ensures) _ refl refl c.if-taken-lt3.false
+    let s = c.args.file.now in
+    opens_long c.read_into-taken.ensures s (first_cut s _ c.piece_end-end.ensures) _ refl refl c.if-taken-lt3.false

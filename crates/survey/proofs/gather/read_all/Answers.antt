@@ -15,39 +15,33 @@ loop-next-init c = (omega arith, omega arith, refl, left-all _ _ _ _)
 
 pub slice_bounds-take-count : goal.slice_bounds-take-count
 slice_bounds-take-count c =
-    let bounds : (d : tie.After-piece-end invariant-loop decreases-loop) → (d.loop-next.next < d.piece_end-stop.result) × (d.piece_end-stop.result ≤ length d.args.file.now) = λ d. let l = d in let s = l.args.file.now in rw d.piece_end-stop.ensures (end_past s l.loop-next.next d.loop-next-test.true, end_most s l.loop-next.next) in
-    omega (arith, bounds c)
+    let bounds : (c.loop-next.next < c.piece_end-stop.result) × (c.piece_end-stop.result ≤ length c.args.file.now) = let s = c.args.file.now in rw c.piece_end-stop.ensures (end_past s c.loop-next.next c.loop-next-test.true, end_most s c.loop-next.next) in
+    omega (arith, bounds)
 
 pub slice_bounds-take-start : goal.slice_bounds-take-start
 slice_bounds-take-start c =
-    let bounds : (d : tie.After-piece-end invariant-loop decreases-loop) → (d.loop-next.next < d.piece_end-stop.result) × (d.piece_end-stop.result ≤ length d.args.file.now) = λ d. let l = d in let s = l.args.file.now in rw d.piece_end-stop.ensures (end_past s l.loop-next.next d.loop-next-test.true, end_most s l.loop-next.next) in
-    let b = bounds c in search rules
+    let bounds : (c.loop-next.next < c.piece_end-stop.result) × (c.piece_end-stop.result ≤ length c.args.file.now) = let s = c.args.file.now in rw c.piece_end-stop.ensures (end_past s c.loop-next.next c.loop-next-test.true, end_most s c.loop-next.next) in
+    let b = bounds in search rules
 
 pub slice_bounds-take-end : goal.slice_bounds-take-end
 slice_bounds-take-end c =
-    let bounds : (d : tie.After-piece-end invariant-loop decreases-loop) → (d.loop-next.next < d.piece_end-stop.result) × (d.piece_end-stop.result ≤ length d.args.file.now) = λ d. let l = d in let s = l.args.file.now in rw d.piece_end-stop.ensures (end_past s l.loop-next.next d.loop-next-test.true, end_most s l.loop-next.next) in
-    let b = bounds c in search rules
+    let bounds : (c.loop-next.next < c.piece_end-stop.result) × (c.piece_end-stop.result ≤ length c.args.file.now) = let s = c.args.file.now in rw c.piece_end-stop.ensures (end_past s c.loop-next.next c.loop-next-test.true, end_most s c.loop-next.next) in
+    let b = bounds in search rules
 
 pub returns-then-not-taken : goal.returns-then-not-taken
 returns-then-not-taken c =
-    let k = c in
-    let d = k in
-    let l = d in
-    left_broken _ _ _ _ l.loop-next.invariant.3 d.loop-next-test.true d.piece_end-stop.ensures k.take-taken.ensures (not-true _ c.if-not-taken.true) _
+    left_broken _ _ _ _ c.loop-next.invariant.3 c.loop-next-test.true c.piece_end-stop.ensures c.take-taken.ensures (not-true _ c.if-not-taken.true) _
 
 pub loop-next-smaller : goal.loop-next-smaller
 loop-next-smaller c =
-    let bounds : (d : tie.After-piece-end invariant-loop decreases-loop) → (d.loop-next.next < d.piece_end-stop.result) × (d.piece_end-stop.result ≤ length d.args.file.now) = λ d. let l = d in let s = l.args.file.now in rw d.piece_end-stop.ensures (end_past s l.loop-next.next d.loop-next-test.true, end_most s l.loop-next.next) in
-    omega (arith, bounds c)
+    let bounds : (c.loop-next.next < c.piece_end-stop.result) × (c.piece_end-stop.result ≤ length c.args.file.now) = let s = c.args.file.now in rw c.piece_end-stop.ensures (end_past s c.loop-next.next c.loop-next-test.true, end_most s c.loop-next.next) in
+    omega (arith, bounds)
 
 pub loop-next-preserved : goal.loop-next-preserved
 loop-next-preserved c =
-    let bounds : (d : tie.After-piece-end invariant-loop decreases-loop) → (d.loop-next.next < d.piece_end-stop.result) × (d.piece_end-stop.result ≤ length d.args.file.now) = λ d. let l = d in let s = l.args.file.now in rw d.piece_end-stop.ensures (end_past s l.loop-next.next d.loop-next-test.true, end_most s l.loop-next.next) in
-    let k = c in
-    let d = k in
-    let l = d in
-    let less = left_less _ _ _ _ l.loop-next.invariant.3 d.loop-next-test.true d.piece_end-stop.ensures k.take-taken.ensures (not-false _ c.if-not-taken.false) in
-    (omega (arith, bounds d), (bounds d).1, omega arith, less)
+    let bounds : (c.loop-next.next < c.piece_end-stop.result) × (c.piece_end-stop.result ≤ length c.args.file.now) = let s = c.args.file.now in rw c.piece_end-stop.ensures (end_past s c.loop-next.next c.loop-next-test.true, end_most s c.loop-next.next) in
+    let less = left_less _ _ _ _ c.loop-next.invariant.3 c.loop-next-test.true c.piece_end-stop.ensures c.take-taken.ensures (not-false _ c.if-not-taken.false) in
+    (omega (arith, bounds), (bounds).1, omega arith, less)
 
 pub returns : goal.returns
-returns c = let l = c in left-none _ _ _ _ l.loop-next.invariant.3 c.loop-next-test.false
+returns c = left-none _ _ _ _ c.loop-next.invariant.3 c.loop-next-test.false

@@ -13,10 +13,8 @@ pub slice_bounds-work-end : goal.slice_bounds-work-end
 slice_bounds-work-end c = omega (arith, read_long c.read_into-taken.ensures c.if-number-ne0.false)
 
 pub slice_bounds-add-end : goal.slice_bounds-add-end
-slice_bounds-add-end c = let n = c in sym (read_long n.read_into-taken.ensures n.if-number-ne0.false).2
+slice_bounds-add-end c = sym (read_long c.read_into-taken.ensures c.if-number-ne0.false).2
 
 pub returns : goal.returns
 returns c =
-    let d = c in
-    let n = d in
-    takes_frame n.read_into-taken.ensures _ _ _ _ _ n.if-number-ne0.false d.add.ensures
+    takes_frame c.read_into-taken.ensures _ _ _ _ _ c.if-number-ne0.false c.add.ensures

@@ -8,15 +8,12 @@ use Rattle.survey.proofs.rows.same_row.Goals as goal
 
 pub returns-then-level_of : goal.returns-then-level_of
 returns-then-level_of c =
-    let l = c in
-    let a = l.args in
-    let differ : level a.s.now a.i ≢ level a.s.now a.j = λ e. c.if-level_of.true (l.level_of.ensures ∙ e ∙ sym l.level_of-2.ensures) in
+    let a = c.args in
+    let differ : level a.s.now a.i ≢ level a.s.now a.j = λ e. c.if-level_of.true (c.level_of.ensures ∙ e ∙ sym c.level_of-2.ensures) in
     sym (other-level (level a.s.now) (volume a.s.now) a.i a.j differ)
 
 pub returns : goal.returns
 returns c =
-    let e = c in
-    let l = e in
-    let a = l.args in
+    let a = c.args in
     rw (c.volume_of.ensures, c.volume_of-2.ensures)
-    (sym (same-level (level a.s.now) (volume a.s.now) a.i a.j (sym l.level_of.ensures ∙ e.if-level_of.false ∙ l.level_of-2.ensures)))
+    (sym (same-level (level a.s.now) (volume a.s.now) a.i a.j (sym c.level_of.ensures ∙ c.if-level_of.false ∙ c.level_of-2.ensures)))

@@ -28,7 +28,6 @@ loop-k-preserved c =
 pub returns : goal.returns
 unfolding stays_from
 returns c =
-    let l = c in
-    let n = l.args.n in
-    let e : l.loop-k.k ≡ 351 - n = omega arith in
-    sym (rw e at l.loop-k.invariant.1)
+    let n = c.args.n in
+    let e : c.loop-k.k ≡ 351 - n = omega arith in
+    sym (rw e at c.loop-k.invariant.1)

@@ -15,8 +15,5 @@ returns-then-c-address c = let a = c.args in sym (other-address a.address a.tabl
 
 pub returns : goal.returns
 returns c =
-    let e = c in
-    let d = e in
-    let l = d in
-    let a = l.args in
-    sym (by_table a.address a.table a.c.now l.if-c-ne-CONTENTS_SIZE.false d.if-c-ne-WRITES_PART.false e.if-c-address.false)
+    let a = c.args in
+    sym (by_table a.address a.table a.c.now c.if-c-ne-CONTENTS_SIZE.false c.if-c-ne-WRITES_PART.false c.if-c-address.false)

@@ -17,64 +17,57 @@ use Rattle.survey.proofs.sheet.Sheet.add.Goals as goal
 pub returns-then-not-sends : goal.returns-then-not-sends
 returns-then-not-sends c =
     let a = c.args in
-    sym (strange-added a.address a.table (gathering a.self a.rows-1.now) a.c.now (sym c.sends.ensures ∙ not-true _ c.if-not-sends.true-raw))
+    sym (strange-added a.address a.table (gathering a.self a.rows.now) a.c.now (sym c.sends.ensures ∙ not-true _ c.if-not-sends.true-raw))
 
 pub bounds-c-3 : goal.bounds-c-3
 bounds-c-3 c =
-    let sent : (e : tie.Else1) → let a = e.args in sends a.address a.table a.c.now ≡ true = λ e. sym e.sends.ensures ∙ not-false _ e.if-not-sends.false-raw in
-    let long : length c.args.c.now ≡ 132 = let a = c.args in (sent_is a.address a.table a.c.now (sent e)).long in
+    let sent : let a = c.args in sends a.address a.table a.c.now ≡ true = sym c.sends.ensures ∙ not-false _ c.if-not-sends.false-raw in
+    let long : length c.args.c.now ≡ 132 = let a = c.args in (sent_is a.address a.table a.c.now (sent)).long in
     omega (arith, long)
 
 pub returns-then-not-is_new : goal.returns-then-not-is_new
 returns-then-not-is_new c =
-    let sent : (e : tie.Else1) → let a = e.args in sends a.address a.table a.c.now ≡ true = λ e. sym e.sends.ensures ∙ not-false _ e.if-not-sends.false-raw in
-    let i = c in
-    let e = i in
-    let a = e.args in
-    let old = sym i.is_new.ensures ∙ not-true _ c.if-not-is_new.true-raw in
-    sym (repeated-added a.address a.table (gathering a.self a.rows-1.now) a.c.now (sent e) old)
+    let sent : let a = c.args in sends a.address a.table a.c.now ≡ true = sym c.sends.ensures ∙ not-false _ c.if-not-sends.false-raw in
+    let a = c.args in
+    let old = sym c.is_new.ensures ∙ not-true _ c.if-not-is_new.true-raw in
+    sym (repeated-added a.address a.table (gathering a.self a.rows.now) a.c.now (sent) old)
 
 pub overflow_sub-k : goal.overflow_sub-k
 overflow_sub-k c =
-    let new : (n : tie.Else2) → let a = n.args in is_new a.self.parts (byte a.c.now 4) ≡ true = λ n. sym n.is_new.ensures ∙ not-false _ n.if-not-is_new.false-raw in
-    let inside : (n : tie.Else2) → let a = n.args in (1 ≤ byte a.c.now 4) × (byte a.c.now 4 ≤ 11) = λ n. let a = n.args in let i = new_is a.self.parts (byte a.c.now 4) (new n) in (i.0, i.1) in
-    omega (arith, inside c)
+    let new : let a = c.args in is_new a.self.parts (byte a.c.now 4) ≡ true = sym c.is_new.ensures ∙ not-false _ c.if-not-is_new.false-raw in
+    let inside : let a = c.args in (1 ≤ byte a.c.now 4) × (byte a.c.now 4 ≤ 11) = let a = c.args in let i = new_is a.self.parts (byte a.c.now 4) (new) in (i.0, i.1) in
+    omega (arith, inside)
 
 pub slice_bounds-put_all-count : goal.slice_bounds-put_all-count
 slice_bounds-put_all-count c =
-    let sent : (e : tie.Else1) → let a = e.args in sends a.address a.table a.c.now ≡ true = λ e. sym e.sends.ensures ∙ not-false _ e.if-not-sends.false-raw in
-    let long : length c.args.c.now ≡ 132 = let a = c.args in (sent_is a.address a.table a.c.now (sent e)).long in
+    let sent : let a = c.args in sends a.address a.table a.c.now ≡ true = sym c.sends.ensures ∙ not-false _ c.if-not-sends.false-raw in
+    let long : length c.args.c.now ≡ 132 = let a = c.args in (sent_is a.address a.table a.c.now (sent)).long in
     omega (arith, long)
 
 pub slice_bounds-put_all-start : goal.slice_bounds-put_all-start
 slice_bounds-put_all-start c =
-    let sent : (e : tie.Else1) → let a = e.args in sends a.address a.table a.c.now ≡ true = λ e. sym e.sends.ensures ∙ not-false _ e.if-not-sends.false-raw in
-    let long : length c.args.c.now ≡ 132 = let a = c.args in (sent_is a.address a.table a.c.now (sent e)).long in
+    let sent : let a = c.args in sends a.address a.table a.c.now ≡ true = sym c.sends.ensures ∙ not-false _ c.if-not-sends.false-raw in
+    let long : length c.args.c.now ≡ 132 = let a = c.args in (sent_is a.address a.table a.c.now (sent)).long in
     omega (arith, long)
 
 pub put_all-requires : goal.put_all-requires
 put_all-requires c =
-    let sent : (e : tie.Else1) → let a = e.args in sends a.address a.table a.c.now ≡ true = λ e. sym e.sends.ensures ∙ not-false _ e.if-not-sends.false-raw in
-    let long : length c.args.c.now ≡ 132 = let a = c.args in (sent_is a.address a.table a.c.now (sent e)).long in
-    let new : (n : tie.Else2) → let a = n.args in is_new a.self.parts (byte a.c.now 4) ≡ true = λ n. sym n.is_new.ensures ∙ not-false _ n.if-not-is_new.false-raw in
-    let inside : (n : tie.Else2) → let a = n.args in (1 ≤ byte a.c.now 4) × (byte a.c.now 4 ≤ 11) = λ n. let a = n.args in let i = new_is a.self.parts (byte a.c.now 4) (new n) in (i.0, i.1) in
-    let n = c in
-    let e = n in
-    let a = e.args in
-    omega (arith, inside n, long e, length-drop 4 a.c.now, e.requires)
+    let sent : let a = c.args in sends a.address a.table a.c.now ≡ true = sym c.sends.ensures ∙ not-false _ c.if-not-sends.false-raw in
+    let long : length c.args.c.now ≡ 132 = let a = c.args in (sent_is a.address a.table a.c.now (sent)).long in
+    let new : let a = c.args in is_new a.self.parts (byte a.c.now 4) ≡ true = sym c.is_new.ensures ∙ not-false _ c.if-not-is_new.false-raw in
+    let inside : let a = c.args in (1 ≤ byte a.c.now 4) × (byte a.c.now 4 ≤ 11) = let a = c.args in let i = new_is a.self.parts (byte a.c.now 4) (new) in (i.0, i.1) in
+    let a = c.args in
+    omega (arith, inside, long, length-drop 4 a.c.now, c.requires)
 
 pub set_bit-requires : goal.set_bit-requires
 set_bit-requires c =
-    let new : (n : tie.Else2) → let a = n.args in is_new a.self.parts (byte a.c.now 4) ≡ true = λ n. sym n.is_new.ensures ∙ not-false _ n.if-not-is_new.false-raw in
-    let inside : (n : tie.Else2) → let a = n.args in (1 ≤ byte a.c.now 4) × (byte a.c.now 4 ≤ 11) = λ n. let a = n.args in let i = new_is a.self.parts (byte a.c.now 4) (new n) in (i.0, i.1) in
-    omega (arith, inside c)
+    let new : let a = c.args in is_new a.self.parts (byte a.c.now 4) ≡ true = sym c.is_new.ensures ∙ not-false _ c.if-not-is_new.false-raw in
+    let inside : let a = c.args in (1 ≤ byte a.c.now 4) × (byte a.c.now 4 ≤ 11) = let a = c.args in let i = new_is a.self.parts (byte a.c.now 4) (new) in (i.0, i.1) in
+    omega (arith, inside)
 
 pub returns : goal.returns
 returns c =
-    let sent : (e : tie.Else1) → let a = e.args in sends a.address a.table a.c.now ≡ true = λ e. sym e.sends.ensures ∙ not-false _ e.if-not-sends.false-raw in
-    let new : (n : tie.Else2) → let a = n.args in is_new a.self.parts (byte a.c.now 4) ≡ true = λ n. sym n.is_new.ensures ∙ not-false _ n.if-not-is_new.false-raw in
-    let p = c in
-    let n = p in
-    let e = n in
-    let a = e.args in
-    new-laid a.address a.table a.self a.rows-1.now a.c.now _ _ (sent e) (new n) c.set_bit.ensures p.put_all.ensures.laid
+    let sent : let a = c.args in sends a.address a.table a.c.now ≡ true = sym c.sends.ensures ∙ not-false _ c.if-not-sends.false-raw in
+    let new : let a = c.args in is_new a.self.parts (byte a.c.now 4) ≡ true = sym c.is_new.ensures ∙ not-false _ c.if-not-is_new.false-raw in
+    let a = c.args in
+    new-laid a.address a.table a.self a.rows.now a.c.now _ _ (sent) (new) c.set_bit.ensures c.put_all.ensures.laid
