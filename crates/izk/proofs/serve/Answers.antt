@@ -3,7 +3,6 @@
 use mathlib.Core.Path.{◌≡◌, sym, ◌∙◌}
 use mathlib.Core.Bool.{true}
 use native.Mathlib.Omega.{arith}
-use borrow.Author.Rules.{rules}
 use borrow.Author.Tests.{not-true, not-false}
 use Rattle.frame.proofs.Passing.{read_long}
 use Rattle.image.specs.Version.{current}
@@ -16,16 +15,16 @@ use Rattle.izk.proofs.Taking.{refused_serves, read_serves_refusal, read_serves}
 use Rattle.izk.proofs.serve.Goals as goal
 
 pub returns-then-not-is_usable : goal.returns-then-not-is_usable
-returns-then-not-is_usable c = refused_serves _ _ _ _ 1 (unusable_is_1 (heard _) current _ _ _ (sym c.is_usable.ensures ∙ not-true _ c.if-not-is_usable.true-raw))
+returns-then-not-is_usable c = refused_serves _ _ _ _ 1 (unusable_is_1 (heard _) current _ _ _ (sym c.is_usable.ensures ∙ c.if-not-is_usable.true))
 
 pub returns-then-out-lt269 : goal.returns-then-out-lt269
 returns-then-out-lt269 c =
-    let u = sym c.is_usable.ensures ∙ not-false _ c.if-not-is_usable.false-raw in
+    let u = sym c.is_usable.ensures ∙ c.if-not-is_usable.false in
     refused_serves _ _ _ _ 2 (no_room_is_2 (heard _) current _ _ _ u c.if-out-lt269.true)
 
 pub returns-then-number-ne0 : goal.returns-then-number-ne0
 returns-then-number-ne0 c =
-    let is-usable : usable current c.args.m.now ≡ true = sym c.is_usable.ensures ∙ not-false _ c.if-not-is_usable.false-raw in
+    let is-usable : usable current c.args.m.now ≡ true = sym c.is_usable.ensures ∙ c.if-not-is_usable.false in
     read_serves_refusal c.read_into-taken.ensures _ _ _ c.if-number-ne0.true (is-usable) c.if-out-lt269.false
 
 pub slice_bounds-work-end : goal.slice_bounds-work-end
@@ -36,7 +35,7 @@ slice_bounds-body-end c = sym (read_long c.read_into-taken.ensures c.if-number-n
 
 pub bounds-m-5 : goal.bounds-m-5
 bounds-m-5 c =
-    let is-usable : usable current c.args.m.now ≡ true = sym c.is_usable.ensures ∙ not-false _ c.if-not-is_usable.false-raw in
+    let is-usable : usable current c.args.m.now ≡ true = sym c.is_usable.ensures ∙ c.if-not-is_usable.false in
     omega (arith, (facts current _ (is-usable)).long_is)
 
 pub recognise-verdict-requires : goal.recognise-verdict-requires
@@ -45,11 +44,11 @@ recognise-verdict-requires c =
 
 pub reply_to-requires : goal.reply_to-requires
 reply_to-requires c =
-    let is-usable : usable current c.args.m.now ≡ true = sym c.is_usable.ensures ∙ not-false _ c.if-not-is_usable.false-raw in
+    let is-usable : usable current c.args.m.now ≡ true = sym c.is_usable.ensures ∙ c.if-not-is_usable.false in
     (rw c.recognise-verdict.ensures (recognised_fits _ _ _), is-usable, c.if-out-lt269.false)
 
 pub returns : goal.returns
 returns c =
-    let is-usable : usable current c.args.m.now ≡ true = sym c.is_usable.ensures ∙ not-false _ c.if-not-is_usable.false-raw in
+    let is-usable : usable current c.args.m.now ≡ true = sym c.is_usable.ensures ∙ c.if-not-is_usable.false in
     let answer = rw c.recognise-verdict.ensures at c.reply_to.ensures in
     read_serves c.read_into-taken.ensures c.if-number-ne0.false _ _ _ _ _ _ (is-usable) c.if-out-lt269.false answer

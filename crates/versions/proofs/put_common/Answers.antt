@@ -1,8 +1,7 @@
 -- The bytes are laid, and the number over theirs. Assumes nothing.
-use mathlib.Core.Path.{sym, ◌∙◌}
+use mathlib.Core.Path.{◌∙◌}
 use native.Mathlib.Omega.{arith}
 use lib.Seq.{length-take-le}
-use borrow.Author.Rules.{rules}
 use Rattle.versions.proofs.Making.{numbered-laid}
 use Rattle.versions.proofs.put_common.Goals as goal
 

@@ -1,8 +1,6 @@
 -- The echo is spelt first, and behind it what the act says; both have room since an accepted body's act fits. Assumes nothing.
-use mathlib.Core.Path.{sym}
 use native.Mathlib.Omega.{arith}
-use borrow.Author.Rules.{rules}
-use Rattle.frame.proofs.FrameLaid.{spells_none, spells_then, spells_past}
+use Rattle.frame.proofs.FrameLaid.{spells_then, spells_past}
 use Rattle.command.proofs.Doing.{shows, signs, opening}
 use Rattle.command.proofs.act.put_reply.Goals as goal
 

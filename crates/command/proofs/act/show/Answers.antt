@@ -1,6 +1,5 @@
 -- What counts of a cell lies inside the cell, and so inside the image. Assumes nothing.
 use native.Mathlib.Omega.{arith}
-use borrow.Author.Rules.{rules}
 use Rattle.command.proofs.Doing.{image_long, first_inside, shown-inside, shown_is, shown_few}
 use Rattle.command.proofs.act.show.Goals as goal
 

@@ -1,6 +1,5 @@
 -- The two bytes of an item's signature. Assumes nothing.
 use native.Mathlib.Omega.{arith}
-use borrow.Author.Rules.{rules}
 use Rattle.frame.proofs.FrameLaid.{spells_then, spells_past}
 use Rattle.command.proofs.Doing.{image_long, signed_is}
 use Rattle.command.proofs.act.sign.Goals as goal

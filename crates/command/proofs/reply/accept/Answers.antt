@@ -2,7 +2,6 @@
 use mathlib.Core.List.{List}
 use Prim.Native.Nat.{ℕ}
 use native.Mathlib.Omega.{arith}
-use borrow.Author.Rules.{rules}
 use Rattle.frame.proofs.FrameLaid.{spells_past, frame_written}
 use Rattle.image.specs.Version.{current}
 use Rattle.command.specs.Reply.{reply_of}

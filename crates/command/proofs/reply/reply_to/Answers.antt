@@ -1,6 +1,5 @@
 -- A refusal sends nothing; the act of an accepted body fits, so that it can be done. Assumes nothing.
-use borrow.Author.Rules.{rules}
-use Rattle.command.proofs.Replying.{body_fits, refused_sends}
+use Rattle.command.proofs.Replying.{refused_sends}
 use Rattle.command.proofs.reply.reply_to.Goals as goal
 
 pub returns-in-Refused : goal.returns-in-Refused

@@ -1,8 +1,5 @@
 -- The input is too long, and the line is laid; or the image is made fresh, and the run begins. Assumes nothing.
-use mathlib.Core.Path.{sym}
 use native.Mathlib.Omega.{arith}
-use lib.Seq.{length-take-le}
-use borrow.Author.Rules.{rules}
 use Rattle.laws.specs.Bytes.{codes}
 use Rattle.desk_run.specs.Desk.{too_long_line}
 use Rattle.desk_run.proofs.Started.{starts_long, starts-short}

@@ -1,7 +1,6 @@
 -- The three parts laid one after the other are the line, whose length is theirs together. Assumes nothing.
 use mathlib.Core.List.{[], ◌∷◌}
 use native.Mathlib.Omega.{arith}
-use borrow.Author.Rules.{rules}
 use Rattle.output.proofs.Laying.{laid_then}
 use Rattle.desk_run.specs.Line.{line_of}
 use Rattle.desk_run.proofs.Lines.{length-line}

@@ -1,10 +1,8 @@
 -- In each of the three cases what is shown is what was laid. Assumes nothing.
-use mathlib.Core.Path.{sym, ap}
+use mathlib.Core.Path.{ap}
 use mathlib.Core.List.{[], ◌∷◌}
 use native.Mathlib.Omega.{arith}
 use lib.ListN.{length}
-use lib.Seq.{length-take-le}
-use borrow.Author.Rules.{rules}
 use Rattle.output.proofs.Laying.{laid_then, laid_none}
 use Rattle.desk_run.proofs.Lines.{shown-none, shown-done, shown-short}
 use Rattle.desk_run.proofs.line.put_shown.Goals as goal

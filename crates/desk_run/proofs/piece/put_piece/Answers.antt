@@ -1,17 +1,9 @@
 -- What serving promises bounds the reply and its line, and makes the line the one to be printed. Assumes nothing.
-use mathlib.Core.Path.{◌≡◌, sym}
-use mathlib.Core.List.{List}
-use Prim.Native.Nat.{ℕ, ◌≤◌, ◌<◌}
+use mathlib.Core.Path.{sym}
 use native.Mathlib.Omega.{arith}
-use lib.ListN.{length}
 use lib.Seq.{length-take-le}
-use borrow.Author.Rules.{rules}
 use Rattle.laws.specs.Bytes.{zeros}
 use Rattle.image.specs.Version.{current}
-use Rattle.rules.specs.declared.switch.Switch.TheVariants.{Unsealed}
-use Rattle.command.specs.Reply.{Serves}
-use Rattle.izk.specs.Heard.{heard}
-use Rattle.izk.specs.Block.{served}
 use Rattle.desk_run.specs.Desk.{left}
 use Rattle.desk_run.proofs.Pieces.{line-short, reply_short, reply_long, line_is, reply_number}
 use Rattle.desk_run.proofs.piece.put_piece.Goals as goal

@@ -1,13 +1,11 @@
 -- The loop keeps what is still to be served and laid. Assumes nothing.
-use mathlib.Core.Path.{◌≡◌, refl, sym, ◌∙◌}
-use Prim.Native.Nat.{◌+◌, ◌-◌, ◌≤◌, ◌<◌}
+use mathlib.Core.Path.{sym, ◌∙◌}
+use Prim.Native.Nat.{◌+◌, ◌≤◌, ◌<◌}
 use native.Mathlib.Omega.{arith}
-use lib.ListN.{length, drop}
+use lib.ListN.{length}
 use borrow.Author.Rules.{rules}
-use Rattle.text.specs.Cut.{pieces}
 use Rattle.text.proofs.Cuts.{end_most, end_past}
 use Rattle.image.specs.Version.{current}
-use Rattle.desk_run.specs.Desk.{ran}
 use Rattle.desk_run.proofs.Pieces.{laid_fits}
 use Rattle.desk_run.proofs.Ran.{ran_full, ran_end, ran_again, runs_of}
 use Rattle.desk_run.proofs.turns.run.Goals as goal

@@ -2,7 +2,6 @@
 use mathlib.Core.Path.{◌≡◌, refl, ap, sym, ◌∙◌}
 use native.Mathlib.Omega.{arith}
 use lib.ListN.{length}
-use borrow.Author.Rules.{rules}
 use Rattle.laws.specs.Bytes.{lay}
 use Rattle.output.proofs.Outcomes.{refused, filled}
 use Rattle.frame.specs.Apart.{contents_of}

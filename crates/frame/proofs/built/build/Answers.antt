@@ -1,7 +1,6 @@
 -- Begun, spelt and ended, the frame is written. Assumes nothing.
 use mathlib.Core.Path.{refl}
 use native.Mathlib.Omega.{arith}
-use borrow.Author.Rules.{rules}
 use Rattle.laws.proofs.Tests.{within_below, within_above}
 use Rattle.output.proofs.Outcomes.{refused}
 use Rattle.frame.proofs.FrameLaid.{spells_past, frame_written}

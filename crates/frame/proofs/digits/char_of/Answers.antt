@@ -1,6 +1,5 @@
 -- On either side of 10 the definition computes. Assumes nothing.
 use mathlib.Core.Path.{sym}
-use borrow.Author.Rules.{rules}
 use Rattle.frame.proofs.Chars.{char_low, char_high}
 use Rattle.frame.proofs.digits.char_of.Goals as goal
 

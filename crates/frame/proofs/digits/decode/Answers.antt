@@ -1,6 +1,5 @@
 -- The table reads every character as the definitions do: one test over all 256, which antt computes. Assumes nothing.
 use mathlib.Core.Path.{refl}
-use borrow.Author.Rules.{rules}
 use Rattle.laws.specs.Checks.{within, every}
 use Rattle.frame.specs.Digits.{is_digit, value_of}
 use Rattle.frame.specs.Read.{reads_at, reads_digits}

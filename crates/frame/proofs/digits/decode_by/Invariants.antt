@@ -1,18 +1,12 @@
 -- The loop keeps whether all are digits, and where they are, what remains to be laid and to be added: the bytes of the characters from 2k on. Assumes
 -- nothing.
-use mathlib.Core.Path.{◌≡◌, refl, ◌∙◌}
+use mathlib.Core.Path.{◌≡◌}
 use mathlib.Core.Bool.{true, ◌&&◌}
 use Prim.Native.Nat.{◌+◌, ◌-◌, ◌*◌, ◌/◌, ◌%◌, ◌≤◌, ◌<◌}
-use native.Mathlib.Omega.{arith}
-use lib.ListN.{length, get_or, drop, length-set}
+use lib.ListN.{length, drop}
 use lib.Dec.{ltb}
-use borrow.Author.Rules.{rules}
 use Rattle.laws.specs.Bytes.{lay, sum_of}
-use Rattle.laws.proofs.Bytes.{lay_next, lay_done}
-use Rattle.laws.proofs.Sums.{sum_first, sum_empty}
 use Rattle.frame.specs.Digits.{all_digits, bytes_of}
-use Rattle.frame.proofs.Chars.{bytes_done}
-use Rattle.frame.proofs.Table.{entry_tells, told_next, byte_next, all_told}
 use Rattle.frame.proofs.digits.decode_by.Given as goal
 
 abbrev pub invariant-loop-k : goal.invariant-loop-k

@@ -1,6 +1,5 @@
 -- The three tests are the definition's. Assumes nothing.
 use mathlib.Core.Path.{refl}
-use borrow.Author.Rules.{rules}
 use Rattle.frame.specs.Apart.{ends_ok}
 use Rattle.frame.proofs.read.ends_ok.Goals as goal
 

@@ -3,12 +3,10 @@ use mathlib.Core.Path.{◌≡◌, sym, ap, ◌∙◌}
 use mathlib.Core.List.{List}
 use mathlib.Core.Bool.{Bool, true, false, cond}
 use Prim.Native.Nat.{ℕ, ◌-◌, ◌%◌, ◌≤◌}
-use native.Mathlib.Omega.{arith}
 use lib.ListN.{length, take, drop}
 use lib.Dec.{eqb, lit<}
 use borrow.Author.Tests.{not-true, not-false, eq-eqb, ne_eqb}
-use borrow.Author.Rules.{rules}
-use Rattle.laws.specs.Bytes.{lay, sum_of}
+use Rattle.laws.specs.Bytes.{sum_of}
 use Rattle.laws.specs.Checks.{judged}
 use Rattle.frame.specs.Digits.{all_digits, bytes_of}
 use Rattle.frame.specs.Apart.{length_ok, ends_ok, inner, body_of, frame_checks}
@@ -31,15 +29,15 @@ returns-then-n-eq0 c = refused_read _ _ 3 (lit< tt) (λ A refusal after. length_
 pub returns-then-not-ends_ok : goal.returns-then-not-ends_ok
 returns-then-not-ends_ok c =
     let right-length : length_ok (length c.args.frame.now) ≡ true = length-right _ c.if-n-lt9.false c.if-n-gt269.false c.if-n-eq0.false in
-    let wrong = sym c.ends_ok.ensures ∙ not-true _ c.if-not-ends_ok.true-raw in
+    let wrong = sym c.ends_ok.ensures ∙ c.if-not-ends_ok.true in
     refused_read _ _ 4 (lit< tt) (λ A refusal after. ends_fail refusal after _ right-length wrong)
 
 pub returns-then-not-all : goal.returns-then-not-all
 returns-then-not-all c =
     let right-length : length_ok (length c.args.frame.now) ≡ true = length-right _ c.if-n-lt9.false c.if-n-gt269.false c.if-n-eq0.false in
-    let right-ends : ends_ok c.args.frame.now ≡ true = sym c.ends_ok.ensures ∙ not-false _ c.if-not-ends_ok.false-raw in
+    let right-ends : ends_ok c.args.frame.now ≡ true = sym c.ends_ok.ensures ∙ c.if-not-ends_ok.false in
     let told : c.decode-tally.result.all ≡ all_digits (inner c.args.frame.now) = c.decode-tally.ensures.all_is ∙ ap all_digits (chars_are _ c.if-n-lt9.false) in
-    refused_read _ _ 5 (lit< tt) (λ A refusal after. digits_fail refusal after _ right-length right-ends (sym told ∙ not-true _ c.if-not-all.true-raw))
+    refused_read _ _ 5 (lit< tt) (λ A refusal after. digits_fail refusal after _ right-length right-ends (sym told ∙ c.if-not-all.true))
 
 -- where the checks come to the sum, the total decides
 decided : (frame : List ℕ) (total : ℕ) → 9 ≤ length frame → length frame ≤ 269 → (length frame % 2 ≡ 0 → ⊥) → ends_ok frame ≡ true → all_digits (inner frame) ≡ true
@@ -48,22 +46,22 @@ decided : (frame : List ℕ) (total : ℕ) → 9 ≤ length frame → length fra
 unfolding inner body_of
 decided frame total low high odd ends digits is t e A refusal after =
     let total_is : total ≡ sum_of (body_of frame) % 256 =
-        is (ap all_digits (chars_are frame low) ∙ digits) ∙ ap (λ (s : List ℕ). sum_of (bytes_of s) % 256) (chars_are frame low) in
+    is (ap all_digits (chars_are frame low) ∙ digits) ∙ ap (λ (s : List ℕ). sum_of (bytes_of s) % 256) (chars_are frame low) in
     sum_decides refusal after _ t (length-right _ low high odd) ends digits (sum_by_total _ digits ∙ rw (← total_is) e)
 
 pub returns-then-total-ne0 : goal.returns-then-total-ne0
 returns-then-total-ne0 c =
     let t = c.decode-tally.ensures in
-    let ends = sym c.ends_ok.ensures ∙ not-false _ c.if-not-ends_ok.false-raw in
-    let digits = sym (t.all_is ∙ ap all_digits (chars_are _ c.if-n-lt9.false)) ∙ not-false _ c.if-not-all.false-raw in
+    let ends = sym c.ends_ok.ensures ∙ c.if-not-ends_ok.false in
+    let digits = sym (t.all_is ∙ ap all_digits (chars_are _ c.if-n-lt9.false)) ∙ c.if-not-all.false in
     refused_read _ _ 6 (lit< tt) (decided _ _ c.if-n-lt9.false c.if-n-gt269.false c.if-n-eq0.false ends digits t.total_is false (ne_eqb _ 0 c.if-total-ne0.true))
 
 pub returns : goal.returns
 returns c =
     let t = c.decode-tally.ensures in
     let low = c.if-n-lt9.false in
-    let ends = sym c.ends_ok.ensures ∙ not-false _ c.if-not-ends_ok.false-raw in
-    let digits = sym (t.all_is ∙ ap all_digits (chars_are _ low)) ∙ not-false _ c.if-not-all.false-raw in
-    let told = sym t.all_is ∙ not-false _ c.if-not-all.false-raw in
+    let ends = sym c.ends_ok.ensures ∙ c.if-not-ends_ok.false in
+    let digits = sym (t.all_is ∙ ap all_digits (chars_are _ low)) ∙ c.if-not-all.false in
+    let told = sym t.all_is ∙ c.if-not-all.false in
     passed_read _ _ _ (decided _ _ low c.if-n-gt269.false c.if-n-eq0.false ends digits t.total_is true (eq-eqb _ 0 c.if-total-ne0.false)) (sym (length_contents _ low))
     (work_contents _ low c.if-n-gt269.false _ _ c.requires (t.laid told))

@@ -1,5 +1,4 @@
 -- Two characters laid one after the other are laid as one. Assumes nothing.
-use borrow.Author.Rules.{rules}
 use Rattle.output.proofs.Laying.{laid_then}
 use Rattle.frame.specs.Digits.{chars_of}
 use Rattle.frame.proofs.writer.put_byte.Goals as goal

@@ -1,7 +1,6 @@
 -- A number lies in one of the two ranges that tables have, or in one of the three around them. Assumes nothing.
 use mathlib.Core.Path.{sym}
 use native.Mathlib.Omega.{arith}
-use borrow.Author.Rules.{rules}
 use Rattle.laws.proofs.Tests.{within_below, within_above}
 use Rattle.image.proofs.Indices.{main_stands, additional_stands, none_stands}
 use Rattle.image.proofs.cell.table_index.Goals as goal

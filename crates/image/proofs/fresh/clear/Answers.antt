@@ -1,11 +1,8 @@
 -- The bytes passed are 0, and the rest is as it was. Assumes nothing.
-use mathlib.Core.Path.{◌≡◌, refl}
-use mathlib.Core.List.{◌++◌}
-use Prim.Native.Nat.{◌-◌, ◌≤◌}
+use mathlib.Core.Path.{refl}
 use native.Mathlib.Omega.{arith}
-use lib.ListN.{length, drop, length-set}
-use Rattle.laws.specs.Bytes.{zeros}
-use Rattle.image.proofs.FreshImage.{clear_none, clear_next, clear-done}
+use lib.ListN.{length-set}
+use Rattle.image.proofs.FreshImage.{clear_none, clear_next}
 use Rattle.image.proofs.fresh.clear.Goals as goal
 
 pub loop-i-init : goal.loop-i-init

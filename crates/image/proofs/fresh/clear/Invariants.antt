@@ -1,11 +1,9 @@
 -- The bytes passed are 0, and the rest is as it was. Assumes nothing.
-use mathlib.Core.Path.{◌≡◌, refl}
+use mathlib.Core.Path.{◌≡◌}
 use mathlib.Core.List.{◌++◌}
 use Prim.Native.Nat.{◌-◌, ◌≤◌}
-use native.Mathlib.Omega.{arith}
-use lib.ListN.{length, drop, length-set}
+use lib.ListN.{length, drop}
 use Rattle.laws.specs.Bytes.{zeros}
-use Rattle.image.proofs.FreshImage.{clear_none, clear_next, clear-done}
 use Rattle.image.proofs.fresh.clear.Given as goal
 
 abbrev pub invariant-loop-i : goal.invariant-loop-i

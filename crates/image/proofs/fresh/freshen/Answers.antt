@@ -1,8 +1,5 @@
 -- The first check that fails decides; past both the cleared buffer is marked from the front. Assumes nothing.
 use mathlib.Core.Path.{refl}
-use native.Mathlib.Omega.{arith}
-use lib.ListN.{length-set}
-use borrow.Author.Rules.{rules}
 use borrow.Author.Tests.{eq-eqb, ne_eqb}
 use Rattle.laws.specs.Checks.{judged}
 use Rattle.image.specs.Fresh.{freshened}

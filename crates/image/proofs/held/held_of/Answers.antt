@@ -1,7 +1,5 @@
 -- Ones are counted, and the trailing ones lead to the lowest missing part. Assumes nothing.
-use Prim.Native.Nat.{◌-◌}
 use native.Mathlib.Omega.{arith}
-use lib.Count.{ones-le, trailing_le}
 use Rattle.laws.proofs.Bits.{ones_are, trailing_ones}
 use Rattle.image.specs.Held.{held_of}
 use Rattle.image.proofs.Missing.{none_missing, one_missing}

@@ -3,7 +3,6 @@ use mathlib.Core.Path.{◌≡◌, sym, ◌∙◌}
 use mathlib.Core.Bool.{true}
 use native.Mathlib.Omega.{arith}
 use borrow.Author.Tests.{not-true, not-false}
-use borrow.Author.Rules.{rules}
 use Rattle.laws.specs.Checks.{judged}
 use Rattle.image.specs.Version.{current}
 use Rattle.image.specs.Words.{table_word}
@@ -15,28 +14,28 @@ use Rattle.image.proofs.held.held_parts.Goals as goal
 
 pub returns-then-not-is_usable : goal.returns-then-not-is_usable
 unfolding held_parts judged
-returns-then-not-is_usable c = rw (sym c.is_usable.ensures ∙ not-true _ c.if-not-is_usable.true-raw) c.unheld.ensures
+returns-then-not-is_usable c = rw (sym c.is_usable.ensures ∙ c.if-not-is_usable.true) c.unheld.ensures
 
 pub returns-then-k-ge16 : goal.returns-then-k-ge16
 unfolding held_parts judged
 returns-then-k-ge16 c =
-    let good : usable current c.args.m.now ≡ true = sym c.is_usable.ensures ∙ not-false _ c.if-not-is_usable.false-raw in
+    let good : usable current c.args.m.now ≡ true = sym c.is_usable.ensures ∙ c.if-not-is_usable.false in
     rw (good, no_index _ _ c.table_index-k.ensures c.if-k-ge16.true) c.unheld-then-k-ge16.ensures
 
 pub word_at-requires : goal.word_at-requires
 word_at-requires c =
-    let good : usable current c.args.m.now ≡ true = sym c.is_usable.ensures ∙ not-false _ c.if-not-is_usable.false-raw in
+    let good : usable current c.args.m.now ≡ true = sym c.is_usable.ensures ∙ c.if-not-is_usable.false in
     omega (arith, (facts current _ good).long_is)
 
 pub held_of-requires : goal.held_of-requires
 unfolding table_word
 held_of-requires c =
-    let good : usable current c.args.m.now ≡ true = sym c.is_usable.ensures ∙ not-false _ c.if-not-is_usable.false-raw in
+    let good : usable current c.args.m.now ≡ true = sym c.is_usable.ensures ∙ c.if-not-is_usable.false in
     omega (arith, (facts current _ good).words c.table_index-k.result (omega arith))
 
 pub returns : goal.returns
 unfolding held_parts judged table_word
 returns c =
-    let good : usable current c.args.m.now ≡ true = sym c.is_usable.ensures ∙ not-false _ c.if-not-is_usable.false-raw in
+    let good : usable current c.args.m.now ≡ true = sym c.is_usable.ensures ∙ c.if-not-is_usable.false in
     let p = index_is _ _ c.table_index-k.ensures (omega arith) in
     rw (good, p.0, ← p.1, ← c.word_at.ensures) c.held_of.ensures

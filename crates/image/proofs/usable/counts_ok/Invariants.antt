@@ -1,8 +1,6 @@
 -- The invariant: the answer so far is that of the counts passed. Assumes nothing.
-use mathlib.Core.Path.{◌≡◌, refl}
+use mathlib.Core.Path.{◌≡◌}
 use Prim.Native.Nat.{◌-◌, ◌≤◌}
-use native.Mathlib.Numerals.{add-one}
-use native.Mathlib.Omega.{arith}
 use Rattle.laws.specs.Checks.{every}
 use Rattle.image.specs.Usable.{count_ok}
 use Rattle.image.proofs.usable.counts_ok.Given as goal

@@ -1,5 +1,4 @@
 -- The code's `&` are nested as the definition's `&&`, so the two are one but for what the version's number is. Assumes nothing.
-use borrow.Author.Rules.{rules}
 use Rattle.image.specs.Usable.{mark_ok}
 use Rattle.image.proofs.usable.mark_ok.Goals as goal
 

@@ -1,10 +1,7 @@
 -- The invariant: the answer so far is that of the words passed. Assumes nothing.
-use mathlib.Core.Path.{◌≡◌, refl}
+use mathlib.Core.Path.{◌≡◌}
 use Prim.Native.Nat.{◌-◌, ◌≤◌}
-use native.Mathlib.Numerals.{add-one}
-use native.Mathlib.Omega.{arith}
 use Rattle.laws.specs.Checks.{every}
-use Rattle.image.specs.Words.{table_word}
 use Rattle.image.specs.Usable.{word_ok}
 use Rattle.image.proofs.usable.words_ok.Given as goal
 

@@ -1,5 +1,4 @@
 -- A shifted one is a power of two, and masking by it tests the bit. Assumes nothing.
-use borrow.Author.Rules.{rules}
 use Rattle.laws.proofs.Bits.{one_shifted}
 use Rattle.image.proofs.Masks.{mask_test}
 use Rattle.image.proofs.word.has_bit.Goals as goal

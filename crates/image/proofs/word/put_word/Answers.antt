@@ -1,9 +1,6 @@
 -- Two bytes stored one after the other are two bytes laid. Assumes nothing.
 use mathlib.Core.Path.{sym}
 use native.Mathlib.Numerals.{add-one}
-use native.Mathlib.Omega.{arith}
-use lib.ListN.{length-set}
-use borrow.Author.Rules.{rules}
 use Rattle.laws.specs.Bytes.{two}
 use Rattle.laws.proofs.Bytes.{lay_is}
 use Rattle.image.proofs.word.put_word.Goals as goal

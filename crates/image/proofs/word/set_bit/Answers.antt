@@ -1,5 +1,4 @@
 -- A shifted one is a power of two, and or-ing it in sets the bit. Assumes nothing.
-use borrow.Author.Rules.{rules}
 use Rattle.laws.proofs.Bits.{one_shifted, or_is}
 use Rattle.image.proofs.word.set_bit.Goals as goal
 

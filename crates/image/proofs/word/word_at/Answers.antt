@@ -1,6 +1,5 @@
 -- Arithmetic on two bytes. Assumes nothing.
 use native.Mathlib.Omega.{arith}
-use borrow.Author.Rules.{rules}
 use Rattle.laws.specs.Bytes.{word_at}
 use Rattle.image.proofs.word.word_at.Goals as goal
 

@@ -1,7 +1,6 @@
 -- Each return by the case that its tests leave. Assumes nothing.
 use mathlib.Core.Path.{sym}
 use native.Mathlib.Omega.{arith}
-use borrow.Author.Rules.{rules}
 use Rattle.listener.proofs.Cases.{before_over, before_is}
 use Rattle.listener.proofs.step.before_at.Goals as goal
 

@@ -1,5 +1,4 @@
 -- Each arm is the definition's. Assumes nothing.
-use borrow.Author.Rules.{rules}
 use Rattle.laws.specs.Checks.{within}
 use Rattle.rules.specs.Rules.{rowed}
 use Rattle.rules.proofs.names.long_ok.Goals as goal

@@ -1,6 +1,5 @@
 -- A count that is not the body's names nothing; with the right one the number alone decides. Assumes nothing.
 use mathlib.Core.Path.{◌∙◌}
-use borrow.Author.Rules.{rules}
 use Rattle.rules.proofs.Judging.{rows_uncounted, rows-counted}
 use Rattle.rules.proofs.names.rows_named.Goals as goal
 

@@ -1,5 +1,4 @@
 -- Each arm is a command of the list, and the last arm has ruled out the number of every one. Assumes nothing.
-use borrow.Author.Rules.{rules}
 use Rattle.rules.specs.Rules.{commands, rule_of}
 use Rattle.rules.proofs.Judging.{no_command}
 use Rattle.rules.proofs.rule.rule_of.Goals as goal

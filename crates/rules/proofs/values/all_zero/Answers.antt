@@ -1,9 +1,6 @@
 -- The invariant: the answer so far and what remains, from byte b on, decide as the whole did. Assumes nothing.
-use mathlib.Core.Path.{◌≡◌, refl}
-use mathlib.Core.Bool.{◌&&◌, and_assoc, and-true}
-use Prim.Native.Nat.{◌+◌, ◌-◌, ◌≤◌}
+use mathlib.Core.Bool.{and_assoc, and-true}
 use native.Mathlib.Omega.{arith}
-use Rattle.rules.specs.Rules.{blank}
 use Rattle.rules.proofs.Judging.{blank_by, blank-done}
 use Rattle.rules.proofs.values.all_zero.Goals as goal
 

@@ -1,5 +1,4 @@
 -- The tests are the definition's. Assumes nothing.
-use borrow.Author.Rules.{rules}
 use Rattle.rules.specs.Rules.{clock_ok}
 use Rattle.rules.proofs.values.clock_ok.Goals as goal
 

@@ -1,6 +1,5 @@
 -- The tests are the definition's, bracketed otherwise. Assumes nothing.
 use mathlib.Core.Bool.{and_assoc}
-use borrow.Author.Rules.{rules}
 use Rattle.rules.specs.Rules.{constants_ok}
 use Rattle.rules.proofs.values.constants_ok.Goals as goal
 

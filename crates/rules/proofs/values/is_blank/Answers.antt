@@ -1,7 +1,6 @@
 -- A body that ends before byte `to` decides by the bytes that it has. Assumes nothing.
 use mathlib.Core.Path.{◌∙◌}
 use native.Mathlib.Omega.{arith}
-use borrow.Author.Rules.{rules}
 use Rattle.rules.proofs.Judging.{blank-short}
 use Rattle.rules.proofs.values.is_blank.Goals as goal
 

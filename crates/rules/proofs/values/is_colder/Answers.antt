@@ -1,7 +1,6 @@
 -- The comparison is the law's. Assumes nothing.
 use mathlib.Core.Path.{sym}
 use native.Mathlib.Omega.{arith}
-use borrow.Author.Rules.{rules}
 use Rattle.rules.proofs.Degrees.{degrees_order}
 use Rattle.rules.proofs.values.is_colder.Goals as goal
 

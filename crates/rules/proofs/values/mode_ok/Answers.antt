@@ -1,5 +1,4 @@
 -- The test is the definition's. Assumes nothing.
-use borrow.Author.Rules.{rules}
 use Rattle.rules.specs.Rules.{mode_ok}
 use Rattle.rules.proofs.values.mode_ok.Goals as goal
 

@@ -1,11 +1,6 @@
 -- The invariant: the answer so far and the rows that remain, from index i on, decide as all did. Assumes nothing.
-use mathlib.Core.Path.{◌≡◌, refl}
-use mathlib.Core.Bool.{◌&&◌, and_assoc, and-true}
-use Prim.Native.Nat.{◌+◌, ◌-◌, ◌≤◌}
+use mathlib.Core.Bool.{and_assoc, and-true}
 use native.Mathlib.Omega.{arith}
-use lib.ListN.{length, drop}
-use borrow.Author.Rules.{rules}
-use Rattle.rules.specs.Rules.{rises}
 use Rattle.rules.proofs.Judging.{rises_by, rises-done}
 use Rattle.rules.proofs.values.rows_rise.Goals as goal
 

@@ -4,7 +4,6 @@ use mathlib.Core.Path.{sym, ap, ◌∙◌}
 use mathlib.Core.Bool.{true, false}
 use Prim.Native.Nat.{ℕ}
 use borrow.Author.Tests.{eq-eqb, ne_eqb, not-true, not-false}
-use borrow.Author.Rules.{rules}
 use Rattle.laws.specs.Checks.{judged}
 use Rattle.rules.specs.Rules.{commands, rule_of}
 use Rattle.rules.specs.Verdict.{sought, recognised}
@@ -19,7 +18,7 @@ pub returns-then-not-lets_do : goal.returns-then-not-lets_do
 returns-then-not-lets_do c =
     switched _ _ _ _ (sym c.byte.ensures ∙ c.if-byte-address.false)
     (ap (λ (k : ℕ). rule_of k commands) (sym c.byte-2.ensures) ∙ sym c.rule_of.ensures ∙ c.in-Rule.is)
-    false (sym c.lets_do.ensures ∙ not-true _ c.if-not-lets_do.true-raw)
+    false (sym c.lets_do.ensures ∙ c.if-not-lets_do.true)
 
 pub returns-in-Nothing : goal.returns-in-Nothing
 unfolding recognised sought judged
@@ -36,4 +35,4 @@ returns-else-not-lets_do c =
     c.tried.ensures
     ∙ switched _ _ _ _ (sym c.byte.ensures ∙ c.if-byte-address.false)
     (ap (λ (k : ℕ). rule_of k commands) (sym c.byte-2.ensures) ∙ sym c.rule_of.ensures ∙ c.in-Rule.is)
-    true (sym c.lets_do.ensures ∙ not-false _ c.if-not-lets_do.false-raw)
+    true (sym c.lets_do.ensures ∙ c.if-not-lets_do.false)

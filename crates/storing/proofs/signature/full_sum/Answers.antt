@@ -1,15 +1,10 @@
 -- The item lies in the bytes that every version has. Assumes nothing.
 use mathlib.Core.Path.{ap, ◌∙◌}
 use mathlib.Core.List.{List}
-use Prim.Native.Nat.{ℕ, ◌+◌, ◌-◌, ◌%◌, ◌≤◌}
+use Prim.Native.Nat.{ℕ, ◌+◌, ◌%◌}
 use native.Mathlib.Omega.{arith}
-use lib.ListN.{drop, length-take}
-use borrow.Author.Rules.{rules}
 use Rattle.laws.specs.Bytes.{sum_of}
 use Rattle.laws.proofs.Bytes.{slice_is}
-use Rattle.image.specs.declared.version.Version.TheVariants.{V1}
-use Rattle.image.specs.Version.{image_length}
-use Rattle.image.proofs.Stretches.{item_inside}
 use Rattle.storing.specs.Signature.{full_sum}
 use Rattle.storing.proofs.signature.full_sum.Goals as goal
 

@@ -1,8 +1,6 @@
 -- The total, with the sum of what remains, is the sum of all. Assumes nothing.
 use mathlib.Core.Path.{◌≡◌}
-use Prim.Native.Nat.{◌+◌, ◌-◌, ◌*◌, ◌≤◌}
 use native.Mathlib.Omega.{arith}
-use lib.ListN.{length, drop}
 use Rattle.laws.specs.Bytes.{sum_of}
 use Rattle.laws.proofs.Sums.{sum_next, sum_done}
 use Rattle.storing.proofs.signature.sum.Goals as goal

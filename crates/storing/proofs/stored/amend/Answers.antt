@@ -1,8 +1,5 @@
 -- The cell lies in the image and so does the word; the word is amended by the sums of what is there and of what comes. Assumes nothing.
-use mathlib.Core.Logic.{inl}
-use native.Mathlib.Omega.{arith}
-use borrow.Author.Rules.{rules}
-use Rattle.storing.proofs.Storing.{word_found, word_room, amended_is, store_room, store_few}
+use Rattle.storing.proofs.Storing.{word_found, amended_is}
 use Rattle.storing.proofs.stored.amend.Goals as goal
 
 pub returns-in-At : goal.returns-in-At

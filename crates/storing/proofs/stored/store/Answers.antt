@@ -1,8 +1,6 @@
 -- The signature is amended, the bytes and the zeros behind them are laid in one stretch, and then the bit is set. Assumes nothing.
 use mathlib.Core.Path.{◌∙◌}
-use native.Mathlib.Omega.{arith}
-use borrow.Author.Rules.{rules}
-use Rattle.storing.proofs.Storing.{store_room, stored_is}
+use Rattle.storing.proofs.Storing.{stored_is}
 use Rattle.storing.proofs.stored.store.Goals as goal
 
 pub returns : goal.returns

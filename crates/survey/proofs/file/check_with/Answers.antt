@@ -1,6 +1,5 @@
 -- Each way out is the check that the definition has there. Assumes nothing.
 use mathlib.Core.Path.{sym, ◌∙◌}
-use borrow.Author.Rules.{rules}
 use borrow.Author.Tests.{not-true, not-false}
 use Rattle.image.proofs.Indices.{index_is, no_index}
 use Rattle.survey.proofs.Checking.{Known, Tabled, known, tabled}
@@ -40,11 +39,11 @@ returns-then-not-rise_then_stay c =
     let read : let a = c.args in Known a.file.now a.rows.now c.read_all-read.new.rows c.first_of-first.result c.read_all-read.result = known c.if-file-gt-FILE_MOST.false c.first_of-first.ensures c.read_all-read.ensures in
     let passed : let a = c.args in Tabled a.file.now a.rows.now c.read_all-read.new.rows c.first_of-first.result c.read_all-read.result = tabled read c.if-read-ne-FRAMES.false (not-false _ c.if-not-sheet.false) c.if-first-eq0.false (index_is _ _ c.table_index.ensures c.if-table_index-ge-TABLES.false).0 in
     let room = c.requires in
-    sym (rows_fall passed (not-false _ c.if-not-sheet-2.false) room (sym c.rise_then_stay.ensures ∙ not-true _ c.if-not-rise_then_stay.true-raw))
+    sym (rows_fall passed (not-false _ c.if-not-sheet-2.false) room (sym c.rise_then_stay.ensures ∙ c.if-not-rise_then_stay.true))
 
 pub returns : goal.returns
 returns c =
     let read : let a = c.args in Known a.file.now a.rows.now c.read_all-read.new.rows c.first_of-first.result c.read_all-read.result = known c.if-file-gt-FILE_MOST.false c.first_of-first.ensures c.read_all-read.ensures in
     let passed : let a = c.args in Tabled a.file.now a.rows.now c.read_all-read.new.rows c.first_of-first.result c.read_all-read.result = tabled read c.if-read-ne-FRAMES.false (not-false _ c.if-not-sheet.false) c.if-first-eq0.false (index_is _ _ c.table_index.ensures c.if-table_index-ge-TABLES.false).0 in
     let room = c.requires in
-    sym (rows_rise passed (not-false _ c.if-not-sheet-2.false) room (sym c.rise_then_stay.ensures ∙ not-false _ c.if-not-rise_then_stay.false-raw))
+    sym (rows_rise passed (not-false _ c.if-not-sheet-2.false) room (sym c.rise_then_stay.ensures ∙ c.if-not-rise_then_stay.false))

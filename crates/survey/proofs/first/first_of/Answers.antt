@@ -2,7 +2,6 @@
 use mathlib.Core.Path.{refl, sym}
 use native.Mathlib.Omega.{arith}
 use lib.Seq.{length-take-le}
-use borrow.Author.Rules.{rules}
 use Rattle.text.proofs.Cuts.{end_most}
 use Rattle.survey.proofs.Reading.{first_cut, opens_short, opens_long}
 use Rattle.survey.proofs.first.first_of.Goals as goal

@@ -1,7 +1,6 @@
 -- A piece that was read is a frame, and its contents are added. Assumes nothing.
 use mathlib.Core.Path.{sym}
 use native.Mathlib.Omega.{arith}
-use borrow.Author.Rules.{rules}
 use Rattle.frame.proofs.Passing.{read_long}
 use Rattle.survey.proofs.Reading.{takes_none, takes_frame}
 use Rattle.survey.proofs.gather.take.Goals as goal

@@ -1,11 +1,8 @@
 -- The invariant: the rows passed rise. Assumes nothing.
-use mathlib.Core.Path.{◌≡◌, refl, sym, ◌∙◌}
+use mathlib.Core.Path.{◌≡◌}
 use mathlib.Core.Bool.{true}
 use Prim.Native.Nat.{◌-◌, ◌≤◌}
-use native.Mathlib.Omega.{arith}
-use borrow.Author.Tests.{not-true, not-false}
 use Rattle.laws.specs.Checks.{every}
-use Rattle.laws.proofs.Tests.{every_next}
 use Rattle.tables.specs.Rows.{level, volume}
 use Rattle.survey.specs.Rows.{row_rises}
 use Rattle.survey.proofs.rows.last_rising.Given as goal

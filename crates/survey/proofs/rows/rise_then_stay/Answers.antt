@@ -1,6 +1,5 @@
 -- The row that the code finds is the one, if there is one. Assumes nothing.
 use mathlib.Core.Path.{◌∙◌}
-use borrow.Author.Rules.{rules}
 use Rattle.tables.specs.Rows.{level, volume}
 use Rattle.survey.specs.Rows.{rises_then_stays}
 use Rattle.survey.proofs.Rising.{found}

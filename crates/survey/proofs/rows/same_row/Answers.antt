@@ -1,7 +1,6 @@
 -- The levels of two rows are compared first, then their volumes. Assumes nothing.
 use mathlib.Core.Path.{sym, ◌∙◌}
 use mathlib.Core.Logic.{◌≢◌}
-use borrow.Author.Rules.{rules}
 use Rattle.tables.specs.Rows.{level, volume}
 use Rattle.survey.proofs.Rising.{other-level, same-level}
 use Rattle.survey.proofs.rows.same_row.Goals as goal

@@ -1,13 +1,11 @@
 -- The invariant: the rows passed are as row n. Assumes nothing.
 use mathlib.Core.Path.{◌≡◌, refl, sym, ◌∙◌}
-use mathlib.Core.Bool.{true}
-use Prim.Native.Nat.{◌+◌, ◌-◌, ◌≤◌}
+use Prim.Native.Nat.{◌-◌}
 use native.Mathlib.Omega.{arith}
 use borrow.Author.Tests.{not-true, not-false}
 use Rattle.laws.specs.Checks.{every}
 use Rattle.laws.proofs.Tests.{every_next, every_fails}
-use Rattle.tables.specs.Rows.{level, volume}
-use Rattle.survey.specs.Rows.{same_row, stays_from}
+use Rattle.survey.specs.Rows.{stays_from}
 use Rattle.survey.proofs.rows.stays_from.Goals as goal
 
 pub loop-k-init : goal.loop-k-init
@@ -17,12 +15,12 @@ loop-k-init c = (omega arith, refl)
 pub returns-then-not-same_row : goal.returns-then-not-same_row
 unfolding stays_from
 returns-then-not-same_row c =
-    let e = sym c.same_row.ensures ∙ not-true _ c.if-not-same_row.true-raw in
+    let e = sym c.same_row.ensures ∙ c.if-not-same_row.true in
     sym (every_fails _ _ c.loop-k.k (omega arith) e)
 
 pub loop-k-preserved : goal.loop-k-preserved
 loop-k-preserved c =
-    let e = sym c.same_row.ensures ∙ not-false _ c.if-not-same_row.false-raw in
+    let e = sym c.same_row.ensures ∙ c.if-not-same_row.false in
     (omega arith, every_next _ _ c.loop-k.invariant.1 e)
 
 pub returns : goal.returns

@@ -2,7 +2,6 @@
 use mathlib.Core.Path.{sym, ap, ◌∙◌}
 use mathlib.Core.Bool.{not}
 use native.Mathlib.Omega.{arith}
-use borrow.Author.Rules.{rules}
 use Rattle.survey.proofs.PartNumbers.{below_1, above_11, by_bit}
 use Rattle.survey.proofs.sheet.is_new.Goals as goal
 

@@ -1,6 +1,5 @@
 -- One after the other: length, command, address, table. Assumes nothing.
 use mathlib.Core.Path.{sym}
-use borrow.Author.Rules.{rules}
 use Rattle.survey.proofs.Frames.{other_length, other-command, other-address, by_table}
 use Rattle.survey.proofs.sheet.sends.Goals as goal
 

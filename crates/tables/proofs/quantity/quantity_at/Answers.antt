@@ -2,11 +2,8 @@
 -- nothing.
 use mathlib.Core.Path.{◌≡◌, sym, ◌∙◌}
 use native.Mathlib.Omega.{arith}
-use borrow.Author.Rules.{rules}
-use Rattle.laws.specs.Checks.{AllPass}
 use Rattle.image.specs.Version.{current}
 use Rattle.image.specs.Cell.{table_index}
-use Rattle.image.specs.Held.{held_checks}
 use Rattle.image.proofs.Indices.{index_below}
 use Rattle.image.proofs.UsableFacts.{facts}
 use Rattle.tables.proofs.Stands.{bytes_cut}

@@ -1,7 +1,6 @@
 -- The levels of two rows are compared first, then their volumes. Assumes nothing.
 use mathlib.Core.Path.{sym}
 use native.Mathlib.Omega.{arith}
-use borrow.Author.Rules.{rules}
 use Rattle.tables.specs.Rows.{level, volume}
 use Rattle.tables.proofs.LastRow.{level_falls, level-climbs}
 use Rattle.tables.proofs.rows.climbs.Goals as goal

@@ -1,8 +1,6 @@
 -- The invariant: row low is at or below the level asked, and every row from high on is above it. Assumes nothing.
 use mathlib.Core.Path.{sym}
-use Prim.Native.Nat.{ℕ, ◌-◌, ◌≤◌, ◌<◌}
 use native.Mathlib.Omega.{arith}
-use Rattle.tables.specs.Rows.{level}
 use Rattle.tables.proofs.LastRow.{last_is, never_fall_is}
 use Rattle.tables.proofs.rows.last_row.Goals as goal
 

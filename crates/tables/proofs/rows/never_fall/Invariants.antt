@@ -1,12 +1,9 @@
 -- The invariant: the rows passed never fall. Assumes nothing.
-use mathlib.Core.Path.{◌≡◌, refl, sym, ◌∙◌}
+use mathlib.Core.Path.{◌≡◌}
 use mathlib.Core.Bool.{true}
 use Prim.Native.Nat.{◌-◌, ◌≤◌}
-use native.Mathlib.Omega.{arith}
-use borrow.Author.Tests.{not-true, not-false}
 use Rattle.laws.specs.Checks.{every}
-use Rattle.laws.proofs.Tests.{every_next, every_fails}
-use Rattle.tables.specs.Rows.{level, volume, climbs, never_fall}
+use Rattle.tables.specs.Rows.{level, volume, climbs}
 use Rattle.tables.proofs.rows.never_fall.Given as goal
 
 abbrev pub invariant-loop-i : goal.invariant-loop-i

@@ -2,7 +2,6 @@
 use mathlib.Core.Path.{sym, ◌∙◌}
 use Prim.Native.Nat.{◌+◌}
 use native.Mathlib.Omega.{arith}
-use borrow.Author.Rules.{rules}
 use Rattle.tables.specs.Rows.{level}
 use Rattle.tables.proofs.LastRow.{Last, is_last, never_fall_is}
 use Rattle.tables.proofs.Answer.{at_last, at_next}

@@ -1,9 +1,5 @@
 -- The loop keeps where the piece ends. Assumes nothing.
-use mathlib.Core.Path.{◌≡◌, refl, sym, ◌∙◌}
-use Prim.Native.Nat.{◌-◌}
-use native.Mathlib.Omega.{arith}
-use lib.ListN.{length}
-use Rattle.text.specs.Cut.{piece_end}
+use mathlib.Core.Path.{sym, ◌∙◌}
 use Rattle.text.proofs.Cuts.{end_here, end_later, end_none}
 use Rattle.text.proofs.cut.piece_end.Goals as goal
 

@@ -1,10 +1,8 @@
 -- The loop keeps where the piece ends. Assumes nothing.
-use mathlib.Core.Path.{◌≡◌, refl, sym, ◌∙◌}
+use mathlib.Core.Path.{◌≡◌}
 use Prim.Native.Nat.{◌-◌}
-use native.Mathlib.Omega.{arith}
 use lib.ListN.{length}
 use Rattle.text.specs.Cut.{piece_end}
-use Rattle.text.proofs.Cuts.{end_here, end_later, end_none}
 use Rattle.text.proofs.cut.piece_end.Given as goal
 
 abbrev pub invariant-loop-i : goal.invariant-loop-i

@@ -2,7 +2,6 @@
 use mathlib.Core.Path.{refl}
 use mathlib.Core.List.{[], ◌∷◌, append_assoc}
 use native.Mathlib.Omega.{arith}
-use borrow.Author.Rules.{rules}
 use Rattle.output.proofs.Laying.{laid_then}
 use Rattle.frame.specs.Digits.{chars_of}
 use Rattle.frame.proofs.FrameLaid.{length_chars}

@@ -1,9 +1,6 @@
 -- The loop keeps what remains to be laid, the characters of the bytes from i on, and their total. Assumes nothing.
-use mathlib.Core.Path.{◌≡◌, refl}
-use Prim.Native.Nat.{◌+◌, ◌-◌, ◌*◌, ◌%◌, ◌≤◌, ◌<◌}
 use native.Mathlib.Omega.{arith}
-use lib.ListN.{length, drop}
-use Rattle.laws.specs.Bytes.{lay, sum_of}
+use Rattle.laws.specs.Bytes.{sum_of}
 use Rattle.laws.proofs.Bytes.{lay_more, lay_done}
 use Rattle.laws.proofs.Sums.{sum_next, sum_done}
 use Rattle.frame.specs.Digits.{chars_of}

@@ -1,7 +1,6 @@
 -- An index below 16 is a table's, and a part's number lies in 1..11, below or above it. Assumes nothing.
 use mathlib.Core.Bool.{and-false}
 use native.Mathlib.Omega.{arith}
-use borrow.Author.Rules.{rules}
 use Rattle.laws.proofs.Tests.{within_in, within_below, within_above}
 use Rattle.image.specs.Cell.{when, part_named}
 use Rattle.image.proofs.Indices.{index_is, no_index}

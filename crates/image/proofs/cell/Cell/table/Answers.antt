@@ -1,5 +1,4 @@
 -- An index below 16 is a table's, and 16 is no table's. Assumes nothing.
-use borrow.Author.Rules.{rules}
 use Rattle.image.specs.Cell.{when, table_named}
 use Rattle.image.proofs.Indices.{index_is, no_index}
 use Rattle.image.proofs.cell.Cell.table.Goals as goal

@@ -4,7 +4,6 @@ use mathlib.Core.Bool.{true}
 use Prim.Native.Nat.{◌≤◌}
 use native.Mathlib.Omega.{arith}
 use lib.ListN.{length, length-drop}
-use borrow.Author.Rules.{rules}
 use borrow.Author.Tests.{not-true, not-false}
 use Rattle.rules.specs.Rules.{byte}
 use Rattle.survey.specs.File.{sends}
@@ -17,57 +16,57 @@ use Rattle.survey.proofs.sheet.Sheet.add.Goals as goal
 pub returns-then-not-sends : goal.returns-then-not-sends
 returns-then-not-sends c =
     let a = c.args in
-    sym (strange-added a.address a.table (gathering a.self a.rows.now) a.c.now (sym c.sends.ensures ∙ not-true _ c.if-not-sends.true-raw))
+    sym (strange-added a.address a.table (gathering a.self a.rows.now) a.c.now (sym c.sends.ensures ∙ c.if-not-sends.true))
 
 pub bounds-c-3 : goal.bounds-c-3
 bounds-c-3 c =
-    let sent : let a = c.args in sends a.address a.table a.c.now ≡ true = sym c.sends.ensures ∙ not-false _ c.if-not-sends.false-raw in
+    let sent : let a = c.args in sends a.address a.table a.c.now ≡ true = sym c.sends.ensures ∙ c.if-not-sends.false in
     let long : length c.args.c.now ≡ 132 = let a = c.args in (sent_is a.address a.table a.c.now (sent)).long in
     omega (arith, long)
 
 pub returns-then-not-is_new : goal.returns-then-not-is_new
 returns-then-not-is_new c =
-    let sent : let a = c.args in sends a.address a.table a.c.now ≡ true = sym c.sends.ensures ∙ not-false _ c.if-not-sends.false-raw in
+    let sent : let a = c.args in sends a.address a.table a.c.now ≡ true = sym c.sends.ensures ∙ c.if-not-sends.false in
     let a = c.args in
-    let old = sym c.is_new.ensures ∙ not-true _ c.if-not-is_new.true-raw in
+    let old = sym c.is_new.ensures ∙ c.if-not-is_new.true in
     sym (repeated-added a.address a.table (gathering a.self a.rows.now) a.c.now (sent) old)
 
 pub overflow_sub-k : goal.overflow_sub-k
 overflow_sub-k c =
-    let new : let a = c.args in is_new a.self.parts (byte a.c.now 4) ≡ true = sym c.is_new.ensures ∙ not-false _ c.if-not-is_new.false-raw in
+    let new : let a = c.args in is_new a.self.parts (byte a.c.now 4) ≡ true = sym c.is_new.ensures ∙ c.if-not-is_new.false in
     let inside : let a = c.args in (1 ≤ byte a.c.now 4) × (byte a.c.now 4 ≤ 11) = let a = c.args in let i = new_is a.self.parts (byte a.c.now 4) (new) in (i.0, i.1) in
     omega (arith, inside)
 
 pub slice_bounds-put_all-count : goal.slice_bounds-put_all-count
 slice_bounds-put_all-count c =
-    let sent : let a = c.args in sends a.address a.table a.c.now ≡ true = sym c.sends.ensures ∙ not-false _ c.if-not-sends.false-raw in
+    let sent : let a = c.args in sends a.address a.table a.c.now ≡ true = sym c.sends.ensures ∙ c.if-not-sends.false in
     let long : length c.args.c.now ≡ 132 = let a = c.args in (sent_is a.address a.table a.c.now (sent)).long in
     omega (arith, long)
 
 pub slice_bounds-put_all-start : goal.slice_bounds-put_all-start
 slice_bounds-put_all-start c =
-    let sent : let a = c.args in sends a.address a.table a.c.now ≡ true = sym c.sends.ensures ∙ not-false _ c.if-not-sends.false-raw in
+    let sent : let a = c.args in sends a.address a.table a.c.now ≡ true = sym c.sends.ensures ∙ c.if-not-sends.false in
     let long : length c.args.c.now ≡ 132 = let a = c.args in (sent_is a.address a.table a.c.now (sent)).long in
     omega (arith, long)
 
 pub put_all-requires : goal.put_all-requires
 put_all-requires c =
-    let sent : let a = c.args in sends a.address a.table a.c.now ≡ true = sym c.sends.ensures ∙ not-false _ c.if-not-sends.false-raw in
+    let sent : let a = c.args in sends a.address a.table a.c.now ≡ true = sym c.sends.ensures ∙ c.if-not-sends.false in
     let long : length c.args.c.now ≡ 132 = let a = c.args in (sent_is a.address a.table a.c.now (sent)).long in
-    let new : let a = c.args in is_new a.self.parts (byte a.c.now 4) ≡ true = sym c.is_new.ensures ∙ not-false _ c.if-not-is_new.false-raw in
+    let new : let a = c.args in is_new a.self.parts (byte a.c.now 4) ≡ true = sym c.is_new.ensures ∙ c.if-not-is_new.false in
     let inside : let a = c.args in (1 ≤ byte a.c.now 4) × (byte a.c.now 4 ≤ 11) = let a = c.args in let i = new_is a.self.parts (byte a.c.now 4) (new) in (i.0, i.1) in
     let a = c.args in
     omega (arith, inside, long, length-drop 4 a.c.now, c.requires)
 
 pub set_bit-requires : goal.set_bit-requires
 set_bit-requires c =
-    let new : let a = c.args in is_new a.self.parts (byte a.c.now 4) ≡ true = sym c.is_new.ensures ∙ not-false _ c.if-not-is_new.false-raw in
+    let new : let a = c.args in is_new a.self.parts (byte a.c.now 4) ≡ true = sym c.is_new.ensures ∙ c.if-not-is_new.false in
     let inside : let a = c.args in (1 ≤ byte a.c.now 4) × (byte a.c.now 4 ≤ 11) = let a = c.args in let i = new_is a.self.parts (byte a.c.now 4) (new) in (i.0, i.1) in
     omega (arith, inside)
 
 pub returns : goal.returns
 returns c =
-    let sent : let a = c.args in sends a.address a.table a.c.now ≡ true = sym c.sends.ensures ∙ not-false _ c.if-not-sends.false-raw in
-    let new : let a = c.args in is_new a.self.parts (byte a.c.now 4) ≡ true = sym c.is_new.ensures ∙ not-false _ c.if-not-is_new.false-raw in
+    let sent : let a = c.args in sends a.address a.table a.c.now ≡ true = sym c.sends.ensures ∙ c.if-not-sends.false in
+    let new : let a = c.args in is_new a.self.parts (byte a.c.now 4) ≡ true = sym c.is_new.ensures ∙ c.if-not-is_new.false in
     let a = c.args in
     new-laid a.address a.table a.self a.rows.now a.c.now _ _ (sent) (new) c.set_bit.ensures c.put_all.ensures.laid
