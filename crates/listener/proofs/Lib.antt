@@ -1,7 +1,5 @@
 pub mod Cases
 pub mod Steps
-pub mod Element
-pub mod Record
 pub mod Along
 pub mod Shapes
 pub mod Gathering
