@@ -39,7 +39,7 @@ pub fn listen(l: &mut Listener, byte: u8) -> bool
     next.there
 }
 
-// The same for a record that is handed over and handed back: what a Rattle program calls, since its own lending of a record would have to be walked by hand.
+// The same for a record that is handed over and handed back.
 pub fn listen_by_value(l: Listener, byte: u8) -> Listened
     ensures { result ≡ listened l byte }
 {

@@ -33,7 +33,7 @@ laid r (c ∷ cs) = laid (lay r (128 * (byte c 4 - 1)) (drop 4 c)) cs
 length-laid : (r : List ℕ) (cs : List (List ℕ)) → length (laid r cs) ≡ length r
 unfolding laid
 length-laid r [] = refl
-length-laid r (c ∷ cs) = length-laid _ cs ∙ length-lay r (128 * (byte c 4 - 1)) (drop 4 c)
+length-laid r (c ∷ cs) = length-laid (lay r (128 * (byte c 4 - 1)) (drop 4 c)) cs ∙ length-lay r (128 * (byte c 4 - 1)) (drop 4 c)
 
 -- all are whole parts, from 1 to 11
 record WholeParts (a t : ℕ) (cs : List (List ℕ)) : Type 0 where
@@ -79,7 +79,7 @@ module _ (a t : ℕ) where
   laid_stays r [] h p l n = refl
   laid_stays r (c ∷ cs) h p l n =
       let q = neither (eqb p (byte c 4)) (among p (parts_in cs)) n in
-      laid_stays _ cs (others c cs h) p l q.1 ∙ other c cs h r p l (eqb-false p (byte c 4) q.0)
+      laid_stays (lay r (128 * (byte c 4 - 1)) (drop 4 c)) cs (others c cs h) p l q.1 ∙ other c cs h r p l (eqb-false p (byte c 4) q.0)
 
   -- one that is among them once has what was sent for it
   laid_holds : (r : List ℕ) → length r ≡ 1408 → (cs : List (List ℕ)) → WholeParts a t cs → distinct (parts_in cs) ≡ true
@@ -89,7 +89,7 @@ module _ (a t : ℕ) where
   laid_holds r long (c ∷ cs) h d p l i =
       let q = and_both _ _ d in
       go (ℕ_discrete p (byte c 4)) (not-true _ q.0)
-      (λ m. laid_holds _ (length-lay r (128 * (byte c 4 - 1)) (drop 4 c) ∙ long) cs (others c cs h) q.1 p l m)
+      (λ m. laid_holds (lay r (128 * (byte c 4 - 1)) (drop 4 c)) (length-lay r (128 * (byte c 4 - 1)) (drop 4 c) ∙ long) cs (others c cs h) q.1 p l m)
     where
       r' : List ℕ
       r' = lay r (128 * (byte c 4 - 1)) (drop 4 c)

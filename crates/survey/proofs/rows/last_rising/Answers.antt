@@ -1,0 +1,20 @@
+-- The invariant: the rows passed rise. Assumes nothing.
+use mathlib.Core.Path.{◌≡◌, refl, sym, ◌∙◌}
+use mathlib.Core.Bool.{true}
+use Prim.Native.Nat.{◌-◌, ◌≤◌}
+use native.Mathlib.Omega.{arith}
+use borrow.Author.Tests.{not-true, not-false}
+use Rattle.laws.specs.Checks.{every}
+use Rattle.laws.proofs.Tests.{every_next}
+use Rattle.tables.specs.Rows.{level, volume}
+use Rattle.survey.specs.Rows.{row_rises}
+use Rattle.survey.proofs.rows.last_rising.Goals as goal
+
+pub loop-i-init : goal.loop-i-init
+unfolding every
+loop-i-init c = (omega arith, refl)
+
+pub loop-i-preserved : goal.loop-i-preserved
+loop-i-preserved c =
+    let e = sym c.row_rises.ensures ∙ not-false _ c.if-not-row_rises.false-raw in
+    (omega arith, every_next _ _ c.loop-i.invariant.1 e)
