@@ -1,34 +1,55 @@
 // The desk program: serves the frames that stand on standard input, and prints a line for each.
 #![tactic(auto)]
 
-ghost use Rattle.std.specs.Prelude.{◌≡◌, take};
-ghost use Rattle.desk_run.specs.Desk.{Lent, desk_image};
+ghost use Rattle.std.specs.Prelude.{◌≡◌, IfSome, OnOk, take};
+ghost use Rattle.std.specs.Io.KnownBytes.{Appends};
+ghost use Rattle.desk_run.specs.Desk.{Lent, desk_image, desk_text};
 
 use desk_run::INPUT_ROOM;
 use image::IMAGE_LENGTH;
-use libc::{STDIN_FILENO, STDOUT_FILENO};
+use std::io;
+use std::io::{Read, Write};
 
-fn main() {
-    let mut buffer = [0u8; INPUT_ROOM];
-    let n = io::read_full(STDIN_FILENO, &mut buffer);
-    let mut m = [0u8; IMAGE_LENGTH];
-    let mut text = io::large_buffer();
-    print_all(&buffer, n, &mut m, &mut text);
+// The text of some two hundred lines goes out at once.
+const TEXT_ROOM: usize = 65536;
+
+fn main(rt: HostRuntime) -> io::Result<()> {
+    serve(&mut rt.stdin(), &mut rt.stdout())
 }
 
-// The text goes out in portions as large as it has room for. No promise can say what a write does; so of this loop it is shown that it ends, and
-// that it goes on to the input's end: the image is the one that the whole input leaves. That the portions are together the desk's text is shown
-// in `desk_run`. Where a portion cannot be written nobody is there to read the rest, and serving it does no harm.
-fn print_all(buffer: &[u8], n: usize, m: &mut [u8], text: &mut [u8])
-    requires { Lent buffer.now n m.old text.old }
-    ensures { m.new ≡ desk_image (take n buffer.now) m.old }
+// For every input the text of its frames is written, and nothing else. Of an input that cannot be read to its end no frame is served.
+fn serve<R: Read, W: Write>(input: &mut R, output: &mut W) -> io::Result<()>
+    ensures { OnOk result (IfSome (R.remaining input.old)
+        (λ xs. Appends (W.contents output.old) (W.contents output.new) (desk_text xs))) }
 {
+    let mut buffer = [0u8; INPUT_ROOM];
+    let n = intake::read_full(input, &mut buffer)?;
+    let mut m = [0u8; IMAGE_LENGTH];
+    let mut text = [0u8; TEXT_ROOM];
+    print_all(output, &buffer, n, &mut m, &mut text)
+}
+
+// The text goes out in portions as large as it has room for, to the input's end: the image is the one that the whole input leaves, and what was written
+// is the desk's text. Where a portion cannot be written nobody is there to read the rest, and serving it does no harm; the first failure is handed on.
+fn print_all<W: Write>(
+    output: &mut W,
+    buffer: &[u8],
+    n: usize,
+    m: &mut [u8],
+    text: &mut [u8],
+) -> io::Result<()>
+    requires { Lent buffer.now n m.old text.old }
+    ensures image { m.new ≡ desk_image (take n buffer.now) m.old }
+    ensures text { OnOk result
+        (Appends (W.contents output.old) (W.contents output.new) (desk_text (take n buffer.now))) }
+{
+    let mut written = Ok(());
     let mut portion = desk_run::start(buffer, n, m, text);
     loop {
         let len = portion.len;
-        io::write_all(STDOUT_FILENO, &text[..len]);
+        written = written.and(output.write_all(&text[..len]));
         if n <= portion.from {
-            return;
+            return written;
         }
         portion = desk_run::run(&buffer[..n], portion.from, m, text);
     }

@@ -1,6 +1,7 @@
 // A record of the script, carried out.
 ghost use Rattle.std.specs.Prelude.{◌<◌, ◌≤◌, length};
 
+use crate::print::Page;
 use crate::script::State;
 use crate::{line, print, script};
 use output::Answer;
@@ -26,101 +27,121 @@ pub(crate) fn poke(image: &mut [u8], at: usize, b: u8) {
     }
 }
 
-fn answered(letter: u8, a: Answer) {
-    print::letter(letter);
-    print::number(a.number as u64);
-    print::number(a.len as u64);
+fn answered(page: &mut Page, letter: u8, a: Answer) {
+    print::letter(page, letter);
+    print::number(page, a.number as u64);
+    print::number(page, a.len as u64);
 }
 
-pub(crate) fn serve(letter: u8, switch: Switch, frame: &[u8], image: &mut [u8], out: &mut [u8]) {
-    answered(letter, izk::serve(frame, switch, image, out));
-    print::bytes(image);
-    print::bytes(out);
-    print::end();
+pub(crate) fn serve(
+    page: &mut Page,
+    letter: u8,
+    switch: Switch,
+    frame: &[u8],
+    image: &mut [u8],
+    out: &mut [u8],
+) {
+    answered(page, letter, izk::serve(frame, switch, image, out));
+    print::bytes(page, image);
+    print::bytes(page, out);
+    print::end(page);
 }
 
-fn fresh(address: u8, image: &mut [u8]) {
+fn fresh(page: &mut Page, address: u8, image: &mut [u8]) {
     let number = izk::fresh(image, address);
-    print::letter(b'F');
-    print::number(number as u64);
-    print::bytes(image);
-    print::end();
+    print::letter(page, b'F');
+    print::number(page, number as u64);
+    print::bytes(page, image);
+    print::end(page);
 }
 
-fn held(rec: &[u8], image: &[u8]) {
+fn held(page: &mut Page, rec: &[u8], image: &[u8]) {
     let h = izk::held_parts(image, script::four(rec, 1) as u32);
-    print::letter(b'H');
-    print::number(h.number as u64);
-    print::number(h.parts as u64);
-    print::number(h.missing as u64);
-    print::end();
+    print::letter(page, b'H');
+    print::number(page, h.number as u64);
+    print::number(page, h.parts as u64);
+    print::number(page, h.missing as u64);
+    print::end(page);
 }
 
-fn quantity(rec: &[u8], image: &[u8]) {
+fn quantity(page: &mut Page, rec: &[u8], image: &[u8]) {
     let q = tables::quantity_at(
         image,
         script::four(rec, 1) as u32,
         script::four(rec, 5) as u32,
     );
-    print::letter(b'A');
-    print::number(q.number as u64);
-    print::number(q.volume as u64);
-    print::end();
+    print::letter(page, b'A');
+    print::number(page, q.number as u64);
+    print::number(page, q.volume as u64);
+    print::end(page);
 }
 
-fn check(file: &[u8]) {
+fn check(page: &mut Page, file: &[u8]) {
     let number = survey::check_file(file);
-    print::letter(b'C');
-    print::number(number as u64);
-    print::end();
+    print::letter(page, b'C');
+    print::number(page, number as u64);
+    print::end(page);
 }
 
-fn take_apart(frame: &[u8], out: &mut [u8]) {
-    answered(b'T', izk::take_apart(frame, out));
-    print::bytes(out);
-    print::end();
+fn take_apart(page: &mut Page, frame: &[u8], out: &mut [u8]) {
+    answered(page, b'T', izk::take_apart(frame, out));
+    print::bytes(page, out);
+    print::end(page);
 }
 
-fn build(contents: &[u8], out: &mut [u8]) {
-    answered(b'B', izk::build(contents, out));
-    print::bytes(out);
-    print::end();
+fn build(page: &mut Page, contents: &[u8], out: &mut [u8]) {
+    answered(page, b'B', izk::build(contents, out));
+    print::bytes(page, out);
+    print::end(page);
 }
 
-fn moved(letter: u8, number: u8, image: &[u8], second: &[u8]) {
-    print::letter(letter);
-    print::number(number as u64);
-    print::bytes(image);
-    print::bytes(second);
-    print::end();
+fn moved(page: &mut Page, letter: u8, number: u8, image: &[u8], second: &[u8]) {
+    print::letter(page, letter);
+    print::number(page, number as u64);
+    print::bytes(page, image);
+    print::bytes(page, second);
+    print::end(page);
 }
 
 // From the image into the second buffer.
-fn move_between(letter: u8, image: &[u8], second: &mut [u8]) {
+fn move_between(page: &mut Page, letter: u8, image: &[u8], second: &mut [u8]) {
     match letter {
-        b'U' => moved(letter, versions::move_up(image, second), image, second),
-        _ => moved(letter, versions::move_down(image, second), image, second),
+        b'U' => moved(
+            page,
+            letter,
+            versions::move_up(image, second),
+            image,
+            second,
+        ),
+        _ => moved(
+            page,
+            letter,
+            versions::move_down(image, second),
+            image,
+            second,
+        ),
     }
 }
 
 // A record that prints a line, of one buffer. A frame, the contents of one, or a table file stands behind its length.
-fn call(rec: &[u8], image: &mut [u8], out: &mut [u8]) {
+fn call(page: &mut Page, rec: &[u8], image: &mut [u8], out: &mut [u8]) {
     let letter = script::byte(rec, 0);
     let from = least(3, rec.len());
     match letter {
-        b'A' => quantity(rec, image),
-        b'C' => check(&rec[from..]),
-        b'F' => fresh(script::byte(rec, 1), image),
-        b'H' => held(rec, image),
-        b'K' => serve(letter, Switch::Sealed, &rec[from..], image, out),
-        b'S' => serve(letter, Switch::Unsealed, &rec[from..], image, out),
-        b'T' => take_apart(&rec[from..], out),
-        _ => build(&rec[from..], out),
+        b'A' => quantity(page, rec, image),
+        b'C' => check(page, &rec[from..]),
+        b'F' => fresh(page, script::byte(rec, 1), image),
+        b'H' => held(page, rec, image),
+        b'K' => serve(page, letter, Switch::Sealed, &rec[from..], image, out),
+        b'S' => serve(page, letter, Switch::Unsealed, &rec[from..], image, out),
+        b'T' => take_apart(page, &rec[from..], out),
+        _ => build(page, &rec[from..], out),
     }
 }
 
 // A record that was read whole. A part of a buffer is written with its start, 0: so nothing is left to be shown of its length.
 fn carry_out(
+    page: &mut Page,
     mut state: State,
     rec: &[u8],
     image: &mut [u8],
@@ -131,7 +152,6 @@ fn carry_out(
     let long = least(state.long, image.len());
     let other = least(state.second, second.len());
     let room = least(state.room, out.len());
-    let l = state.listener;
     match letter {
         b'L' => state.long = script::three(rec, 1),
         b'P' => poke(image, script::three(rec, 1), script::byte(rec, 4)),
@@ -145,16 +165,23 @@ fn carry_out(
             fill(out, script::byte(rec, 3));
             state.room = script::two(rec, 1);
         }
-        b'D' | b'U' => move_between(letter, &image[0..long], &mut second[0..other]),
-        b'Q' | b'R' | b'Y' => state.listener = line::changed(l, rec),
-        b'N' | b'V' => state.listener = line::hear(l, rec, &mut image[0..long], &mut out[0..room]),
-        _ => call(rec, &mut image[0..long], &mut out[0..room]),
+        b'D' | b'U' => move_between(page, letter, &image[0..long], &mut second[0..other]),
+        b'Q' | b'R' | b'Y' => state.listener = line::changed(state.listener, rec),
+        b'N' | b'V' => state.listener = line::hear(
+            page,
+            state.listener,
+            rec,
+            &mut image[0..long],
+            &mut out[0..room],
+        ),
+        _ => call(page, rec, &mut image[0..long], &mut out[0..room]),
     }
     state
 }
 
 // One record, or the end of the run where none can be read.
 pub(crate) fn step(
+    page: &mut Page,
     mut state: State,
     text: &[u8],
     image: &mut [u8],
@@ -167,13 +194,13 @@ pub(crate) fn step(
     let at = state.at;
     let n = script::size(&text[at..]);
     if n < 1 {
-        print::letter(b'?');
-        print::end();
+        print::letter(page, b'?');
+        print::end(page);
         state.at = text.len();
         return state;
     }
     let e = at + n;
-    state = carry_out(state, &text[at..e], image, second, out);
+    state = carry_out(page, state, &text[at..e], image, second, out);
     state.at = e;
     state
 }

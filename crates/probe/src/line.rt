@@ -1,4 +1,5 @@
 // The listener: its record, set by a script, and what it makes of the bytes of a line.
+use crate::print::Page;
 use crate::{call, print, script};
 use listener::Listener;
 use rules::Switch;
@@ -20,31 +21,45 @@ pub(crate) fn changed(mut l: Listener, rec: &[u8]) -> Listener {
 }
 
 // A frame that is there: the first bytes of the room, which are never more than it has. `V` has it served.
-fn frame(letter: u8, taken: usize, count: usize, room: &[u8], image: &mut [u8], out: &mut [u8]) {
+fn frame(
+    page: &mut Page,
+    letter: u8,
+    taken: usize,
+    count: usize,
+    room: &[u8],
+    image: &mut [u8],
+    out: &mut [u8],
+) {
     let n = call::least(count, room.len());
     let held = &room[0..n];
-    print::letter(b'G');
-    print::number(taken as u64);
-    print::number(n as u64);
-    print::bytes(held);
-    print::end();
+    print::letter(page, b'G');
+    print::number(page, taken as u64);
+    print::number(page, n as u64);
+    print::bytes(page, held);
+    print::end(page);
     if letter == b'V' {
-        call::serve(b'S', Switch::Unsealed, held, image, out);
+        call::serve(page, b'S', Switch::Unsealed, held, image, out);
     }
 }
 
 // The listener's record as the last byte leaves it. Of its room all counts, so that a byte stored where none should be is seen.
-fn left(letter: u8, l: Listener) {
+fn left(page: &mut Page, letter: u8, l: &Listener) {
     let room = l.room;
-    print::letter(letter);
-    print::number(l.count as u64);
-    print::number(l.gathering as u64);
-    print::bytes(&room);
-    print::end();
+    print::letter(page, letter);
+    print::number(page, l.count as u64);
+    print::number(page, l.gathering as u64);
+    print::bytes(page, &room);
+    print::end(page);
 }
 
 // The bytes behind the length are listened to, one after the other.
-pub(crate) fn hear(mut l: Listener, rec: &[u8], image: &mut [u8], out: &mut [u8]) -> Listener {
+pub(crate) fn hear(
+    page: &mut Page,
+    mut l: Listener,
+    rec: &[u8],
+    image: &mut [u8],
+    out: &mut [u8],
+) -> Listener {
     let letter = script::byte(rec, 0);
     let from = call::least(3, rec.len());
     let bytes = &rec[from..];
@@ -55,9 +70,9 @@ pub(crate) fn hear(mut l: Listener, rec: &[u8], image: &mut [u8], out: &mut [u8]
         i += 1;
         if heard.there {
             let room = l.room;
-            frame(letter, i, l.count, &room, image, out);
+            frame(page, letter, i, l.count, &room, image, out);
         }
     }
-    left(letter, l);
+    left(page, letter, &l);
     l
 }

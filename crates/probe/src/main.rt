@@ -8,20 +8,26 @@ mod print;
 mod script;
 
 use image::IMAGE_LENGTH;
-use libc::STDIN_FILENO;
+use print::Page;
 use script::State;
+use std::io;
 
-fn main() {
-    let mut text = io::large_buffer();
-    let n = io::read_full(STDIN_FILENO, &mut text);
+// At most so many bytes of a script are read.
+const SCRIPT_ROOM: usize = 65536;
+
+fn main(rt: HostRuntime) -> io::Result<()> {
+    let mut text = [0u8; SCRIPT_ROOM];
+    let n = intake::read_full(&mut rt.stdin(), &mut text)?;
     let mut image = [0u8; 24000];
     let mut second = [0u8; 24000];
     let mut out = [0u8; 400];
-    run(&text[..n], &mut image, &mut second, &mut out);
+    let mut page = print::begin(rt.stdout());
+    run(&mut page, &text[..n], &mut image, &mut second, &mut out);
+    print::done(page)
 }
 
 // Every record moves on, so the script comes to its end.
-fn run(text: &[u8], image: &mut [u8], second: &mut [u8], out: &mut [u8]) {
+fn run(page: &mut Page, text: &[u8], image: &mut [u8], second: &mut [u8], out: &mut [u8]) {
     let mut state = State {
         at: 0,
         long: IMAGE_LENGTH,
@@ -32,9 +38,9 @@ fn run(text: &[u8], image: &mut [u8], second: &mut [u8], out: &mut [u8]) {
     };
     while state.at < text.len() {
         state = if state.turned {
-            call::step(state, text, second, image, out)
+            call::step(page, state, text, second, image, out)
         } else {
-            call::step(state, text, image, second, out)
+            call::step(page, state, text, image, second, out)
         };
     }
 }

@@ -1,7 +1,28 @@
 // The lines that the probe prints.
 ghost use Rattle.std.specs.Prelude.{◌<◌};
 
-use libc::STDOUT_FILENO;
+use std::io;
+use std::io::{Print, Stdout};
+
+// Where they go, and the first write that failed. Records go on behind one, since nothing that they do depends on what was printed.
+#[derive(Drop)]
+pub struct Page {
+    out: Stdout,
+    written: io::Result<()>,
+}
+
+pub(crate) fn begin(out: Stdout) -> Page {
+    Page {
+        out,
+        written: Ok(()),
+    }
+}
+
+fn note(page: &mut Page, written: io::Result<()>) {
+    if page.written.is_ok() {
+        page.written = written;
+    }
+}
 
 fn wide(b: u8) -> u64
     ensures { result < 256 }
@@ -20,20 +41,27 @@ fn digest(bytes: &[u8]) -> u64 {
     h
 }
 
-pub(crate) fn letter(c: u8) {
+pub(crate) fn letter(page: &mut Page, c: u8) {
     let text = [c];
-    io::write_all(STDOUT_FILENO, &text);
+    let written = page.out.write_all(&text);
+    note(page, written);
 }
 
-pub(crate) fn number(n: u64) {
-    letter(b' ');
-    io::print_decimal(STDOUT_FILENO, n);
+pub(crate) fn number(page: &mut Page, n: u64) {
+    letter(page, b' ');
+    let written = page.out.print(n);
+    note(page, written);
 }
 
-pub(crate) fn bytes(b: &[u8]) {
-    number(digest(b));
+pub(crate) fn bytes(page: &mut Page, b: &[u8]) {
+    number(page, digest(b));
 }
 
-pub(crate) fn end() {
-    letter(b'\n');
+pub(crate) fn end(page: &mut Page) {
+    letter(page, b'\n');
+}
+
+// Whether all of it was written.
+pub(crate) fn done(page: Page) -> io::Result<()> {
+    page.written
 }

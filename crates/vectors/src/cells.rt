@@ -1,5 +1,6 @@
 // Where a request's numbers lead.
 use crate::print;
+use crate::print::Page;
 use image::{Cell, Named};
 
 // By a command that reads such a cell; 76 writes its own, and 61 reads a whole table.
@@ -16,12 +17,12 @@ fn named(command: usize, a: u8, b: u8) -> Named {
 }
 
 // Offset and size; nothing where no cell is named.
-pub(crate) fn cell(command: usize, a: u8, b: u8) {
+pub(crate) fn cell(page: &mut Page, command: usize, a: u8, b: u8) {
     let found = named(command, a, b);
     match found {
         Named::Cell(c) => {
-            print::start(c.offset());
-            print::next(c.size());
+            print::start(page, c.offset());
+            print::next(page, c.size());
         }
         Named::Nothing => {}
     }

@@ -7,6 +7,7 @@ ghost use Rattle.survey.specs.File.{file_checks};
 ghost use Rattle.survey.specs.Described.{Says};
 
 use crate::print;
+use crate::print::Page;
 use image::{Cell, Named, Version};
 use output::Cursor;
 use tables::Quantity;
@@ -27,7 +28,7 @@ fn wide(b: u8) -> usize {
 }
 
 // n bytes from `from` on.
-pub(crate) fn get(image: &[u8], from: usize, n: u8) {
+pub(crate) fn get(page: &mut Page, image: &[u8], from: usize, n: u8) {
     let mut i = from;
     let mut left = n;
     while 0 < left {
@@ -35,9 +36,9 @@ pub(crate) fn get(image: &[u8], from: usize, n: u8) {
             return;
         }
         if i == from {
-            print::start(wide(image[i]));
+            print::start(page, wide(image[i]));
         } else {
-            print::next(wide(image[i]));
+            print::next(page, wide(image[i]));
         }
         i += 1;
         left -= 1;
@@ -45,16 +46,16 @@ pub(crate) fn get(image: &[u8], from: usize, n: u8) {
 }
 
 // The offset and the value of each byte from `from` on that is not 0. Where more stands before them, the first has its space too.
-pub(crate) fn list(image: &[u8], from: usize, mut more: bool) {
+pub(crate) fn list(page: &mut Page, image: &[u8], from: usize, mut more: bool) {
     let mut i = from;
     while i < image.len() {
         if image[i] != 0 {
             if more {
-                print::text(b" ");
+                print::text(page, b" ");
             }
-            print::start(i);
-            print::text(b"=");
-            print::start(wide(image[i]));
+            print::start(page, i);
+            print::text(page, b"=");
+            print::start(page, wide(image[i]));
             more = true;
         }
         i += 1;
@@ -62,32 +63,32 @@ pub(crate) fn list(image: &[u8], from: usize, mut more: bool) {
 }
 
 // In version 1 where that is asked, else in the block's own.
-pub(crate) fn usable(image: &[u8], version: u8) {
+pub(crate) fn usable(page: &mut Page, image: &[u8], version: u8) {
     let asked = if version == 1 {
         Version::V1
     } else {
         Version::CURRENT
     };
-    print::start(if image::is_usable(image, asked) { 1 } else { 0 });
+    print::start(page, if image::is_usable(image, asked) { 1 } else { 0 });
 }
 
 // To version 2 or to version 1, into the first n bytes of another buffer; the number.
-pub(crate) fn moved(image: &[u8], version: u8, n: usize, second: &mut [u8]) {
+pub(crate) fn moved(page: &mut Page, image: &[u8], version: u8, n: usize, second: &mut [u8]) {
     if second.len() < n {
         return;
     }
     match version {
-        1 => print::start(versions::move_down(image, &mut second[0..n]) as usize),
-        2 => print::start(versions::move_up(image, &mut second[0..n]) as usize),
+        1 => print::start(page, versions::move_down(image, &mut second[0..n]) as usize),
+        2 => print::start(page, versions::move_up(image, &mut second[0..n]) as usize),
         _ => {}
     }
 }
 
-pub(crate) fn held(image: &[u8], table: u32) {
+pub(crate) fn held(page: &mut Page, image: &[u8], table: u32) {
     let h = izk::held_parts(image, table);
-    print::start(h.number as usize);
-    print::next(h.parts as usize);
-    print::next(h.missing as usize);
+    print::start(page, h.number as usize);
+    print::next(page, h.parts as usize);
+    print::next(page, h.missing as usize);
 }
 
 // By the promise of the question alone: what it says of this table's number and of this very level, neither of them cut, is put to use here.
@@ -100,15 +101,15 @@ fn volume_at(m: &[u8], table: u32, asked: u32) -> Quantity
 }
 
 // By a table whose number is one byte, or two with the high byte first.
-pub(crate) fn quantity(image: &[u8], level: u32, two: bool, a: u8, b: u8) {
+pub(crate) fn quantity(page: &mut Page, image: &[u8], level: u32, two: bool, a: u8, b: u8) {
     let table = if two {
         256 * (a as u32) + (b as u32)
     } else {
         a as u32
     };
     let q = volume_at(image, table, level);
-    print::start(q.number as usize);
-    print::next(q.volume as usize);
+    print::start(page, q.number as usize);
+    print::next(page, q.volume as usize);
 }
 
 // By the promise of the checker alone: what it says of these very bytes is put to use here.
@@ -120,19 +121,19 @@ fn number_of(bytes: &[u8]) -> u8
 }
 
 // As a table file.
-pub(crate) fn file(bytes: &[u8]) {
-    print::start(number_of(bytes) as usize);
+pub(crate) fn file(page: &mut Page, bytes: &[u8]) {
+    print::start(page, number_of(bytes) as usize);
 }
 
 // The sum of the first n bytes.
-pub(crate) fn total(image: &[u8], n: usize) {
+pub(crate) fn total(page: &mut Page, image: &[u8], n: usize) {
     if 65536 < n {
         return;
     }
     if image.len() < n {
         return;
     }
-    print::start(storing::sum(&image[0..n]) as usize);
+    print::start(page, storing::sum(&image[0..n]) as usize);
 }
 
 // The bit is set in the table's word, and read back.
@@ -165,9 +166,9 @@ fn write(m: &mut [u8], table: u8, part: u8) -> bool {
 }
 
 // Whether the bit was read back, and what is held then.
-pub(crate) fn mark(m: &mut [u8], table: u8, part: u8) {
+pub(crate) fn mark(page: &mut Page, m: &mut [u8], table: u8, part: u8) {
     let set = write(m, table, part);
-    print::start(if set { 1 } else { 0 });
-    print::text(b" ");
-    held(m, table as u32);
+    print::start(page, if set { 1 } else { 0 });
+    print::text(page, b" ");
+    held(page, m, table as u32);
 }

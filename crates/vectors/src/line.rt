@@ -1,4 +1,5 @@
 // What a listener takes off a line of bytes, and the record that it has.
+use crate::print::Page;
 use crate::{answers, images, print};
 use listener::Listener;
 
@@ -17,33 +18,33 @@ pub(crate) fn recorded(count: usize, flag: u8, bytes: &[u8]) -> Listener {
 }
 
 // How many bytes were taken, and the frame that the last of them ended.
-fn print_frame(taken: usize, l: Listener) {
+fn print_frame(page: &mut Page, taken: usize, l: &Listener) {
     let room = l.room;
-    print::start(taken);
-    print::text(b":");
-    answers::print_bytes(&room, l.count);
-    print::text(b", ");
+    print::start(page, taken);
+    print::text(page, b":");
+    answers::print_bytes(page, &room, l.count);
+    print::text(page, b", ");
 }
 
 // The count, the flag, and each byte of the room that is not 0.
-fn print_record(l: Listener) {
+fn print_record(page: &mut Page, l: &Listener) {
     let room = l.room;
-    print::start(l.count);
-    print::next(if l.gathering { 1 } else { 0 });
-    images::list(&room, 0, true);
+    print::start(page, l.count);
+    print::next(page, if l.gathering { 1 } else { 0 });
+    images::list(page, &room, 0, true);
 }
 
 // Each frame as it comes, then the record as the last byte leaves it, for the next step.
-pub(crate) fn off(mut l: Listener, bytes: &[u8]) -> Listener {
+pub(crate) fn off(page: &mut Page, mut l: Listener, bytes: &[u8]) -> Listener {
     let mut i = 0;
     while i < bytes.len() {
         let heard = listener::listen_by_value(l, bytes[i]);
         l = heard.listener;
         i += 1;
         if heard.there {
-            print_frame(i, l);
+            print_frame(page, i, &l);
         }
     }
-    print_record(l);
+    print_record(page, &l);
     l
 }

@@ -11,18 +11,20 @@ mod script;
 mod steps;
 
 use image::IMAGE_LENGTH;
-use libc::STDIN_FILENO;
+use std::io;
 
 // One byte more than an image has.
 const LONGER: usize = IMAGE_LENGTH + 1;
 
-// More than the cases take, for which `io::large_buffer` is too small. What lay past it would not be read, and the output would be short of `stdout`.
+// More than the cases take. What lay past it would not be read, and the output would be short of `stdout`.
 const CASES_ROOM: usize = 262144;
 
-fn main() {
+fn main(rt: HostRuntime) -> io::Result<()> {
     let mut text = [0u8; CASES_ROOM];
-    let n = io::read_full(STDIN_FILENO, &mut text);
+    let n = intake::read_full(&mut rt.stdin(), &mut text)?;
     let mut image = [0u8; LONGER];
     let mut second = [0u8; LONGER];
-    steps::lines(&text[..n], &mut image, &mut second);
+    let mut page = print::begin(rt.stdout());
+    steps::lines(&mut page, &text[..n], &mut image, &mut second);
+    print::end(page)
 }

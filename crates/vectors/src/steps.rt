@@ -1,4 +1,5 @@
 // The steps in turn. Each prints itself and, behind an equals sign, what comes out; in a line with text, the text and what comes out.
+use crate::print::Page;
 use crate::{answers, cells, images, line, print, script};
 use image::IMAGE_LENGTH;
 use listener::Listener;
@@ -17,22 +18,31 @@ pub struct Turn {
 }
 
 // A step that prints, by its letter: its number, its bytes and the first two of them, and as much of the image as it is lent.
-fn call(letter: u8, number: u32, bytes: &[u8], a: u8, b: u8, switch: Switch, image: &mut [u8]) {
+fn call(
+    page: &mut Page,
+    letter: u8,
+    number: u32,
+    bytes: &[u8],
+    a: u8,
+    b: u8,
+    switch: Switch,
+    image: &mut [u8],
+) {
     let n = number as usize;
     match letter {
-        0 => answers::contents(bytes, switch, image),
-        b'c' => cells::cell(n, a, b),
-        b'd' => answers::line(bytes, switch, image),
-        b'g' => images::get(image, n, a),
-        b'h' => images::held(image, number),
-        b'i' => images::list(image, n, false),
-        b'm' => images::mark(image, a, b),
-        b'n' => print::start(izk::fresh(image, a) as usize),
-        b'q' => images::quantity(image, number, 1 < bytes.len(), a, b),
-        b't' => images::total(image, n),
-        b'u' => images::usable(image, a),
-        b'y' => images::file(image),
-        _ => answers::answer_into(letter, bytes, switch, n, image),
+        0 => answers::contents(page, bytes, switch, image),
+        b'c' => cells::cell(page, n, a, b),
+        b'd' => answers::line(page, bytes, switch, image),
+        b'g' => images::get(page, image, n, a),
+        b'h' => images::held(page, image, number),
+        b'i' => images::list(page, image, n, false),
+        b'm' => images::mark(page, image, a, b),
+        b'n' => print::start(page, izk::fresh(image, a) as usize),
+        b'q' => images::quantity(page, image, number, 1 < bytes.len(), a, b),
+        b't' => images::total(page, image, n),
+        b'u' => images::usable(page, image, a),
+        b'y' => images::file(page, image),
+        _ => answers::answer_into(page, letter, bytes, switch, n, image),
     }
 }
 
@@ -54,7 +64,7 @@ fn keyed(turn: Turn, a: u8) -> Turn {
 }
 
 // A step, with what it changes for those behind it in its line.
-fn run(s: &[u8], mut turn: Turn, image: &mut [u8], second: &mut [u8]) -> Turn {
+fn run(page: &mut Page, s: &[u8], mut turn: Turn, image: &mut [u8], second: &mut [u8]) -> Turn {
     let bare = turn.bare;
     let long = turn.long;
     let turned = turn.turned;
@@ -83,12 +93,21 @@ fn run(s: &[u8], mut turn: Turn, image: &mut [u8], second: &mut [u8]) -> Turn {
         b'w' => script::fill(image, a),
         _ => {
             if !bare {
-                print::text(b" = ");
+                print::text(page, b" = ");
             }
             match letter {
-                b'o' => turn.listener = line::off(turn.listener, bytes),
-                b'v' => images::moved(&image[0..long], a, number as usize, second),
-                _ => call(letter, number, bytes, a, b, switch, &mut image[0..long]),
+                b'o' => turn.listener = line::off(page, turn.listener, bytes),
+                b'v' => images::moved(page, &image[0..long], a, number as usize, second),
+                _ => call(
+                    page,
+                    letter,
+                    number,
+                    bytes,
+                    a,
+                    b,
+                    switch,
+                    &mut image[0..long],
+                ),
             }
         }
     }
@@ -107,42 +126,56 @@ fn line_start() -> Turn {
 }
 
 // The text or the step before a stop, and the stop.
-fn piece(s: &[u8], stop: u8, mut turn: Turn, image: &mut [u8], second: &mut [u8]) -> Turn {
+fn piece(
+    page: &mut Page,
+    s: &[u8],
+    stop: u8,
+    mut turn: Turn,
+    image: &mut [u8],
+    second: &mut [u8],
+) -> Turn {
     let text = turn.text;
     let bare = turn.bare;
     if stop == b'|' {
         if text {
-            print::text(s);
+            print::text(page, s);
         }
         turn.text = !text;
         turn.bare = true;
         return turn;
     }
     if !bare {
-        print::text(s);
+        print::text(page, s);
     }
-    let after = run(s, turn, image, second);
+    let after = run(page, s, turn, image, second);
     if stop == b';' {
         if !bare {
-            print::text(b";");
+            print::text(page, b";");
         }
         return after;
     }
-    print::text(b"\n");
+    print::text(page, b"\n");
     line_start()
 }
 
 // The buffers in the places that they have now.
-fn piece_of(s: &[u8], stop: u8, turn: Turn, image: &mut [u8], second: &mut [u8]) -> Turn {
+fn piece_of(
+    page: &mut Page,
+    s: &[u8],
+    stop: u8,
+    turn: Turn,
+    image: &mut [u8],
+    second: &mut [u8],
+) -> Turn {
     if turn.turned {
-        piece(s, stop, turn, second, image)
+        piece(page, s, stop, turn, second, image)
     } else {
-        piece(s, stop, turn, image, second)
+        piece(page, s, stop, turn, image, second)
     }
 }
 
 // Every line has its end.
-pub(crate) fn lines(script: &[u8], image: &mut [u8], second: &mut [u8]) {
+pub(crate) fn lines(page: &mut Page, script: &[u8], image: &mut [u8], second: &mut [u8]) {
     let mut turn = line_start();
     let mut from = 0;
     while from < script.len() {
@@ -150,7 +183,7 @@ pub(crate) fn lines(script: &[u8], image: &mut [u8], second: &mut [u8]) {
         if stop == script.len() {
             return;
         }
-        turn = piece_of(&script[from..stop], script[stop], turn, image, second);
+        turn = piece_of(page, &script[from..stop], script[stop], turn, image, second);
         from = stop + 1;
     }
 }
