@@ -1,12 +1,10 @@
 #!/usr/bin/env bash
 # Tries the comparison itself, which would also pass if it found nothing: the built programs and the model's own must pass as they are, and each
 # fault that is planted in what they print must be found. A fault that changes nothing, such as an edit that fits no line any more, has failed.
-# Needs the built programs in target/bin. The panel's, target/c/panel, is tried where it is there.
+# The panel's program, target/c/panel, which tests/panel/run makes, is tried where it is there.
 set -uo pipefail
 cd "$(dirname "$0")/../.." || exit 1
-mapfile -t prefix < <(tests/prefix)
-[ "${#prefix[@]}" -gt 0 ] || exit 1
-mapfile -t panel_prefix < <(tests/prefix c)
+tests/built desk probe || exit 1
 cargo build --release --offline --quiet --manifest-path tests/model/Cargo.toml || exit 1
 model=tests/model/target/release/model
 panel=target/c/panel
@@ -28,9 +26,9 @@ compared() { # OF WHICH END FILTER
     local plant=(tests/model/planted "$2" "$3" "$4") programs
     case $1 in
         ours)
-            programs=(--desk target/bin/desk --probe target/bin/probe)
+            programs=(--desk crates/desk/out/desk --probe crates/probe/out/probe)
             [[ $2 != panel && $2 != '*' || ! -e $panel ]] || programs+=(--panel "$panel")
-            "$model" compare "${programs[@]}" --streams 0 --failures 1 -- "${plant[@]}" "${prefix[@]}" -- "${plant[@]}" "${panel_prefix[@]}"
+            "$model" compare "${programs[@]}" --streams 0 --failures 1 -- "${plant[@]}"
             ;;
         model)
             programs=(--desk desk --probe probe)

@@ -39,7 +39,6 @@ pub struct Options {
     /// So many failures end the run.
     pub failures: usize,
     pub prefix: Vec<String>,
-    pub panel_prefix: Vec<String>,
 }
 
 /// Tests passed and failed so far, and the report's way out.

@@ -5,11 +5,10 @@
 //!     model probe < script    the probe program's lines
 //!     model panel < script    the lines of the panel's C program
 //!     model compare --desk PATH --probe PATH [--panel PATH]
-//!         [--streams N] [--seed S] [--failures M] [-- PREFIX... [-- PANEL'S...]]
+//!         [--streams N] [--seed S] [--failures M] [-- PREFIX...]
 //!
-//! The words of PREFIX are put before each program's path, for an emulator. The
-//! panel's program, which may be built for the machine itself, has its own
-//! behind a second `--`.
+//! The words of PREFIX are put before each program's path, for what plants
+//! faults in the lines that it prints.
 //! Some hundred streams and scripts have a purpose of their own and come first;
 //! a smaller N leaves none of them out. The run ends early after M failures.
 
@@ -44,7 +43,7 @@ use std::process::ExitCode;
 
 const USAGE: &str =
     "usage: model desk | model probe | model panel | model compare --desk PATH --probe PATH \
-    [--panel PATH] [--streams N] [--seed S] [--failures M] [-- PREFIX... [-- PANEL'S...]]";
+    [--panel PATH] [--streams N] [--seed S] [--failures M] [-- PREFIX...]";
 
 fn main() -> ExitCode {
     let mut words = env::args().skip(1);
@@ -91,13 +90,9 @@ fn options(mut words: impl Iterator<Item = String>) -> Result<compare::Options, 
     let (mut desk, mut probe, mut panel) = (None, None, None);
     let (mut streams, mut seed, mut failures) = (508, 2012, usize::MAX);
     let mut prefix = Vec::new();
-    let mut panel_prefix = None;
     while let Some(word) = words.next() {
         if word == "--" {
-            let rest: Vec<String> = words.collect();
-            let mut parts = rest.split(|word| word == "--").map(<[String]>::to_vec);
-            prefix = parts.next().unwrap_or_default();
-            panel_prefix = parts.next();
+            prefix = words.collect();
             break;
         }
         let value = words.next().ok_or(format!("{word} has no value"))?;
@@ -119,7 +114,6 @@ fn options(mut words: impl Iterator<Item = String>) -> Result<compare::Options, 
         streams,
         seed,
         failures,
-        panel_prefix: panel_prefix.unwrap_or_else(|| prefix.clone()),
         prefix,
     })
 }

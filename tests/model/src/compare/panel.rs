@@ -54,7 +54,7 @@ fn try_script(
     coverage.count_panel_script();
     let expected = panel_calls(script, drawn, |call| coverage.count_panel(call));
     let about = |line| describe(script, line);
-    let outcome = judge((program, &options.panel_prefix), script, &expected, about);
+    let outcome = judge((program, &options.prefix), script, &expected, about);
     Some(outcome.map_err(|fault| format!("{name}\n{fault}")))
 }
 
