@@ -1,8 +1,9 @@
 /* The IZK-3 block for a host that is written in C: serve a frame, and ask which parts of a table are held.
 
-   For Linux on x86-64. The archive is target/staticlib/libpanel.a, made and proved by `rt staticlib panel`; link it as
+   For Linux on x86-64. The archive is crates/panel/out/libpanel.a, made and proved by `rt lib --cpu x86-64` in crates/panel;
+   link it as
 
-       cc -I include prog.c target/staticlib/libpanel.a
+       cc -I include prog.c crates/panel/out/libpanel.a
 
    Of the C library it uses memcpy and memset. It allocates nothing, makes no system call, has no state of its own and keeps
    nothing between two calls: all that there is stands in the buffers that the host lends. Frames, commands and the image are

@@ -1,5 +1,5 @@
-/* What the C programs of the tests need of the C library. It is declared here, because on a machine that is not x86-64 they are built with the kit's
-   compiler, which brings that library for x86-64 and none of its headers. */
+/* What the C programs of the tests need of the C library. It is declared here, so that they stand on the C compiler alone: like izk.h they include no
+   header that has a library behind it. */
 #ifndef PLAIN_H
 #define PLAIN_H
 
