@@ -198,3 +198,23 @@ module _ (input : List ℕ) (r : Progress) (m m' text text' : List ℕ) where
   pub after_run : (from : ℕ) → Runs (ran current from 0 m text (pieces (drop from input))) input from r m' text'
       → end_image input r.from m' ≡ end_image input from m
   after_run from s = rw (s.image_is, s.from_is) (ran-leaves current input from 0 m text)
+
+-- ---- and the text
+
+-- what is printed for the pieces from an index on
+abbrev pub end_text : List ℕ → ℕ → List ℕ → List ℕ
+end_text input from m = transcript current m (pieces (drop from input))
+
+pub nothing_left : (input : List ℕ) (from : ℕ) (m : List ℕ) → length input ≤ from → end_text input from m ≡ []
+unfolding transcript pieces
+nothing_left input from m h = rw (none_left input from h)
+
+-- each portion, with what is printed for the rest, is what was to be printed
+module _ (input : List ℕ) (r : Progress) (m m' text text' : List ℕ) where
+  pub text_after_start : 300 ≤ length text → Runs (started current input m text) input 0 r m' text'
+      → take r.len text' ++ end_text input r.from m' ≡ desk_text input
+  text_after_start h s = rw (s.text_is, s.len_is, s.image_is, s.from_is) (opens input m text h).remains
+
+  pub text_after_run : (from : ℕ) → Runs (ran current from 0 m text (pieces (drop from input))) input from r m' text'
+      → take r.len text' ++ end_text input r.from m' ≡ end_text input from m
+  text_after_run from s = rw (s.text_is, s.len_is, s.image_is, s.from_is) (ran_remains current input from 0 m text)
