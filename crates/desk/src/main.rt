@@ -17,16 +17,17 @@ fn main(rt: HostRuntime) -> io::Result<()> {
     serve(&mut rt.stdin(), &mut rt.stdout())
 }
 
-// For every input the text of its frames is written, and nothing else. Of an input that cannot be read to its end no frame is served.
+// For every input the text of its frames is written, and nothing else. Input that cannot be read counts as ended there, and the failure is handed on
+// behind the text.
 fn serve<R: Read, W: Write>(input: &mut R, output: &mut W) -> io::Result<()>
     ensures { OnOk result (IfSome (R.remaining input.old)
         (λ xs. Appends (W.contents output.old) (W.contents output.new) (desk_text xs))) }
 {
     let mut buffer = [0u8; INPUT_ROOM];
-    let n = intake::read_full(input, &mut buffer)?;
+    let (n, read) = intake::read_full(input, &mut buffer);
     let mut m = [0u8; IMAGE_LENGTH];
     let mut text = [0u8; TEXT_ROOM];
-    print_all(output, &buffer, n, &mut m, &mut text)
+    read.and(print_all(output, &buffer, n, &mut m, &mut text))
 }
 
 // The text goes out in portions as large as it has room for, to the input's end: the image is the one that the whole input leaves, and what was written

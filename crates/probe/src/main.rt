@@ -17,13 +17,13 @@ const SCRIPT_ROOM: usize = 65536;
 
 fn main(rt: HostRuntime) -> io::Result<()> {
     let mut text = [0u8; SCRIPT_ROOM];
-    let n = intake::read_full(&mut rt.stdin(), &mut text)?;
+    let (n, read) = intake::read_full(&mut rt.stdin(), &mut text);
     let mut image = [0u8; 24000];
     let mut second = [0u8; 24000];
     let mut out = [0u8; 400];
     let mut page = print::begin(rt.stdout());
     run(&mut page, &text[..n], &mut image, &mut second, &mut out);
-    print::done(page)
+    read.and(print::done(page))
 }
 
 // Every record moves on, so the script comes to its end.

@@ -21,10 +21,10 @@ const CASES_ROOM: usize = 262144;
 
 fn main(rt: HostRuntime) -> io::Result<()> {
     let mut text = [0u8; CASES_ROOM];
-    let n = intake::read_full(&mut rt.stdin(), &mut text)?;
+    let (n, read) = intake::read_full(&mut rt.stdin(), &mut text);
     let mut image = [0u8; LONGER];
     let mut second = [0u8; LONGER];
     let mut page = print::begin(rt.stdout());
     steps::lines(&mut page, &text[..n], &mut image, &mut second);
-    print::end(page)
+    read.and(print::end(page))
 }

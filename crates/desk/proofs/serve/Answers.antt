@@ -2,6 +2,7 @@
 use Rattle.std.proofs.Common.{◌≡◌, ℕ, ◌≤◌, ◌<◌, List, [], ◌++◌, Option, None, Some, Result, Ok, Err, OnOk, IfSome, arith, length, take, sym, ap, ◌∙◌, subst, append-nil, length-take-le}
 use native.Mathlib.Decide.{dec_lt}
 use lib.Seq.{take_at, take_all}
+use Rattle.std.specs.Result.{result_and}
 use Rattle.std.specs.Io.KnownBytes.{Appends, Consumes, IsAtEnd}
 use Rattle.desk_run.specs.Desk.{desk_text}
 use Rattle.desk_run.proofs.Portions.{room_enough}
@@ -27,13 +28,19 @@ same_text (Some xs) (Some ys) n buffer whole counted read end =
     let first = first_bytes xs ys buffer n counted read end in
     sym (ap desk_text (ap (λ k. take k xs) (sym whole) ∙ first)) ∙ room_enough xs
 
-written : {E : Type 0} (r : Result (Unit {0}) E) (a c d : Option (List ℕ)) (text : List ℕ) → OnOk r (Appends c d text)
-    → IfSome a (λ xs. text ≡ desk_text xs) → OnOk r (IfSome a (λ xs. Appends c d (desk_text xs)))
-written (Ok _) (Some xs) c d text put same = subst (Appends c d) same put
-written (Ok _) None c d text put same = tt
-written (Err _) a c d text put same = tt
+appends_same : (a c d : Option (List ℕ)) (text : List ℕ) → Appends c d text → IfSome a (λ xs. text ≡ desk_text xs) → IfSome a (λ xs. Appends c d (desk_text xs))
+appends_same (Some xs) c d text put same = subst (Appends c d) same put
+appends_same None c d text put same = tt
+
+-- and it was written, where neither failed
+written : {E : Type 0} (read put : Result (Unit {0}) E) (a b c d : Option (List ℕ)) (n : ℕ) (buffer : List ℕ) → length buffer ≡ 65537 → n ≤ length buffer
+    → Consumes a b (take n buffer) → OnOk read (n < length buffer → IsAtEnd b) → OnOk put (Appends c d (desk_text (take n buffer)))
+    → OnOk (result_and read put) (IfSome a (λ xs. Appends c d (desk_text xs)))
+written (Ok _) (Ok _) a b c d n buffer whole counted taken end said = appends_same a c d _ said (same_text a b n buffer whole counted taken end)
+written (Ok _) (Err _) a b c d n buffer whole counted taken end said = tt
+written (Err _) put a b c d n buffer whole counted taken end said = tt
 
 pub returns : goal.returns
 returns g c =
-    written _ _ _ _ _ c.print_all.ensures.text
-    (same_text _ _ _ _ (omega arith) c.in_ok-n.ensures.bound.0 c.in_ok-n.ensures.bytes c.in_ok-n.ensures.end)
+    let r = c.read_full-n in
+    rw c.and.ensures (written _ _ _ _ _ _ _ _ (omega arith) r.ensures.bound r.ensures.bytes r.ensures.end c.print_all.ensures.text)

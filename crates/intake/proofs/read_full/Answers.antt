@@ -1,3 +1,4 @@
+-- A read puts its bytes behind those that were read before. Assumes nothing.
 use Rattle.std.proofs.Common.{◌≡◌, ℕ, ◌+◌, ◌≤◌, List, ◌++◌, rules, length, take, sym, ap, ◌∙◌, subst, length-take-le}
 use Rattle.std.proofs.Math.Seq.{take-append-add, take-append-le}
 use Rattle.std.specs.Io.KnownBytes.{Consumes}
@@ -14,5 +15,5 @@ take-part a k n xs ys within fits =
 
 pub loop-done-preserved : goal.loop-done-preserved
 loop-done-preserved g c =
-    let read = Consumes-trans _ _ _ _ _ c.loop-done.invariant.2 c.in_ok-n.ensures.bytes.0 in
-    (search rules, search rules, subst (Consumes _ _) (take-part _ _ _ _ _ c.loop-done.invariant.1 c.in_ok-n.ensures.bound.0) read)
+    let read = Consumes-trans _ _ _ _ _ c.loop-done.invariant.2 c.in-Ok.ensures.bytes.0 in
+    (search rules, search rules, subst (Consumes _ _) (take-part _ _ _ _ _ c.loop-done.invariant.1 c.in-Ok.ensures.bound.0) read)

@@ -1,4 +1,4 @@
--- What stands at the buffer's start is what was read so far, and each read that gives something leaves less room.
+-- What stands at the buffer's start is what was read so far, and each read that gives something leaves less room. Assumes nothing.
 use Rattle.std.proofs.Common.{◌-◌, ◌≤◌, ◌≡◌, length, take}
 use Rattle.std.specs.Io.KnownBytes.{Consumes}
 use Rattle.intake.proofs.read_full.Given as goal
