@@ -17,8 +17,8 @@ fn main(rt: HostRuntime) -> io::Result<()> {
     serve(&mut rt.stdin(), &mut rt.stdout())
 }
 
-// For every input the text of its frames is written, and nothing else. Input that cannot be read counts as ended there, and the failure is handed on
-// behind the text.
+// Of a reader and a writer whose bytes are known, and where neither fails: the text of all that is read is written, and nothing else. Input that cannot be
+// read counts as ended there, and the failure is handed on behind the text.
 fn serve<R: Read, W: Write>(input: &mut R, output: &mut W) -> io::Result<()>
     ensures { OnOk result (IfSome (R.remaining input.old)
         (λ xs. Appends (W.contents output.old) (W.contents output.new) (desk_text xs))) }
@@ -30,8 +30,9 @@ fn serve<R: Read, W: Write>(input: &mut R, output: &mut W) -> io::Result<()>
     read.and(print_all(output, &buffer, n, &mut m, &mut text))
 }
 
-// The text goes out in portions as large as it has room for, to the input's end: the image is the one that the whole input leaves, and what was written
-// is the desk's text. Where a portion cannot be written nobody is there to read the rest, and serving it does no harm; the first failure is handed on.
+// The text goes out in portions as large as it has room for, to the input's end: the image is the one that the whole input leaves, and what a writer
+// whose bytes are known was given is the desk's text. Where a portion cannot be written nobody is there to read the rest, and serving it does no harm;
+// the first failure is handed on.
 fn print_all<W: Write>(
     output: &mut W,
     buffer: &[u8],

@@ -8,7 +8,7 @@ ghost use Rattle.listener.specs.Listening.{listened, idle};
 
 // The bytes gathered, how many of them count, and whether it is gathering; nothing else is kept between two bytes. Who has the line holds one of these for
 // it, and lends it with each byte.
-#[derive(Drop)]
+#[derive(Clone, Copy)]
 pub struct Listener {
     pub room: [u8; 269],
     pub count: usize,
@@ -16,7 +16,7 @@ pub struct Listener {
 }
 
 // The record after a byte, and whether a frame is there now.
-#[derive(Drop)]
+#[derive(Clone, Copy)]
 pub struct Listened {
     pub listener: Listener,
     pub there: bool,
