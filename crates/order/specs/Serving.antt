@@ -2,8 +2,7 @@
 -- other by the promise. Assumes nothing.
 use Rattle.std.specs.Prelude.{◌≡◌, ◌⊎◌, true, ℕ, ◌≤◌, length, take, replicate}
 use mathlib.Core.List.{List, [], ◌∷◌, map, Memᴰ}
-use Rattle.std.proofs.Common.{arith}
-use Rattle.std.proofs.lemmas.List.{length-replicate}
+use Rattle.std.proofs.Math.Nat.{le_refl}
 use Rattle.output.specs.declared.answer.Answer.{Answer}
 use Rattle.image.specs.declared.cell.Cell.{Cell}
 use Rattle.image.specs.declared.version.Version.{Version}
@@ -23,7 +22,7 @@ pub record Call : Type 0 where
 
 -- a frame with an output of its own; and no frame, for places outside a list
 abbrev pub call : List ℕ → Call
-call f = record { frame = f; out = replicate 269 0; room = rw (length-replicate {A = ℕ} 269 0) (omega arith) }
+call f = record { frame = f; out = replicate 269 0; room = le_refl 269 }
 
 abbrev pub nothing : Call
 nothing = call []

@@ -74,6 +74,10 @@ module _ (s : List ℕ) (from : ℕ) where
   unfolding piece_end
   end_past h = omega (arith, ends_some (drop from s) (omega (arith, length-drop from s)))
 
+  -- what was found as the piece's end lies behind its beginning, and in the list
+  pub end_inside : (e : ℕ) → e ≡ piece_end from s → from < length s → (from < e) × (e ≤ length s)
+  end_inside e is h = rw is (end_past h, end_most)
+
   -- the piece reaches to its end
   pub piece_reaches : from < length s → from + length (piece_at from s) ≡ piece_end from s
   piece_reaches h = omega (arith, end_past h, end_most, length-slice from (piece_end from s - from) s (omega (arith, end_past h, end_most)))

@@ -1,10 +1,10 @@
 -- The loop keeps what is still to be served and laid. Assumes nothing.
 use mathlib.Core.Path.{sym, ◌∙◌}
-use Prim.Native.Nat.{◌+◌, ◌≤◌, ◌<◌}
+use Prim.Native.Nat.{◌+◌, ◌≤◌}
 use native.Mathlib.Omega.{arith}
 use lib.ListN.{length}
 use borrow.Author.Rules.{rules}
-use Rattle.text.proofs.Cuts.{end_most, end_past}
+use Rattle.text.proofs.Cuts.{end_inside}
 use Rattle.image.specs.Version.{current}
 use Rattle.desk_run.proofs.Pieces.{laid_fits}
 use Rattle.desk_run.proofs.Ran.{ran_full, ran_end, ran_again, runs_of}
@@ -17,23 +17,23 @@ returns-then-text-end-lt300 c =
 
 pub slice_bounds-put_piece-count : goal.slice_bounds-put_piece-count
 slice_bounds-put_piece-count c =
-    let bounds : (c.loop-next.next < c.piece_end-stop.result) × (c.piece_end-stop.result ≤ length c.args.input.now) = let s = c.args.input.now in rw c.piece_end-stop.ensures (end_past s c.loop-next.next c.loop-next-test.true, end_most s c.loop-next.next) in
-    omega (arith, bounds)
+    let b = end_inside c.args.input.now c.loop-next.next c.piece_end-stop.result c.piece_end-stop.ensures c.loop-next-test.true in
+    omega arith
 
 pub slice_bounds-put_piece-start : goal.slice_bounds-put_piece-start
 slice_bounds-put_piece-start c =
-    let bounds : (c.loop-next.next < c.piece_end-stop.result) × (c.piece_end-stop.result ≤ length c.args.input.now) = let s = c.args.input.now in rw c.piece_end-stop.ensures (end_past s c.loop-next.next c.loop-next-test.true, end_most s c.loop-next.next) in
-    let b = bounds in search rules
+    let b = end_inside c.args.input.now c.loop-next.next c.piece_end-stop.result c.piece_end-stop.ensures c.loop-next-test.true in
+    search rules
 
 pub slice_bounds-put_piece-end : goal.slice_bounds-put_piece-end
 slice_bounds-put_piece-end c =
-    let bounds : (c.loop-next.next < c.piece_end-stop.result) × (c.piece_end-stop.result ≤ length c.args.input.now) = let s = c.args.input.now in rw c.piece_end-stop.ensures (end_past s c.loop-next.next c.loop-next-test.true, end_most s c.loop-next.next) in
-    let b = bounds in search rules
+    let b = end_inside c.args.input.now c.loop-next.next c.piece_end-stop.result c.piece_end-stop.ensures c.loop-next-test.true in
+    search rules
 
 pub loop-next-smaller : goal.loop-next-smaller
 loop-next-smaller c =
-    let bounds : (c.loop-next.next < c.piece_end-stop.result) × (c.piece_end-stop.result ≤ length c.args.input.now) = let s = c.args.input.now in rw c.piece_end-stop.ensures (end_past s c.loop-next.next c.loop-next-test.true, end_most s c.loop-next.next) in
-    omega (arith, bounds)
+    let b = end_inside c.args.input.now c.loop-next.next c.piece_end-stop.result c.piece_end-stop.ensures c.loop-next-test.true in
+    omega arith
 
 pub loop-next-preserved : goal.loop-next-preserved
 loop-next-preserved c =

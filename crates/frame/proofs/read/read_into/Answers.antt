@@ -5,7 +5,7 @@ use mathlib.Core.Bool.{Bool, true, false, cond}
 use Prim.Native.Nat.{ℕ, ◌-◌, ◌%◌, ◌≤◌}
 use lib.ListN.{length, take, drop}
 use lib.Dec.{eqb, lit<}
-use borrow.Author.Tests.{not-true, not-false, eq-eqb, ne_eqb}
+use borrow.Author.Tests.{eq-eqb, ne_eqb}
 use Rattle.laws.specs.Bytes.{sum_of}
 use Rattle.laws.specs.Checks.{judged}
 use Rattle.frame.specs.Digits.{all_digits, bytes_of}
@@ -14,30 +14,19 @@ use Rattle.frame.proofs.Body.{chars_are, length_contents, work_contents}
 use Rattle.frame.proofs.Answers.{length_below, length_above, length_even, length-right, length_fails, ends_fail, digits_fail}
 use Rattle.frame.proofs.Answers.{sum_decides, refused_read, passed_read}
 use Rattle.frame.proofs.Totals.{sum_by_total}
+use Rattle.frame.proofs.read.read_into.Goals.{Else-n-eq0, Else-not-ends_ok, Else-not-all}
 use Rattle.frame.proofs.read.read_into.Goals as goal
 
--- ---- the needs
-pub returns-then-n-lt9 : goal.returns-then-n-lt9
-returns-then-n-lt9 c = refused_read _ _ 3 (lit< tt) (λ A refusal after. length_fails refusal after _ (length_below _ c.if-n-lt9.true))
+-- ---- what is known past each test
 
-pub returns-then-n-gt269 : goal.returns-then-n-gt269
-returns-then-n-gt269 c = refused_read _ _ 3 (lit< tt) (λ A refusal after. length_fails refusal after _ (length_above _ c.if-n-gt269.true))
+right-length : (c : Else-n-eq0) → length_ok (length c.args.frame.now) ≡ true
+right-length c = length-right _ c.if-n-lt9.false c.if-n-gt269.false c.if-n-eq0.false
 
-pub returns-then-n-eq0 : goal.returns-then-n-eq0
-returns-then-n-eq0 c = refused_read _ _ 3 (lit< tt) (λ A refusal after. length_fails refusal after _ (length_even _ c.if-n-eq0.true))
+right-ends : (c : Else-not-ends_ok) → ends_ok c.args.frame.now ≡ true
+right-ends c = sym c.ends_ok.ensures ∙ c.if-not-ends_ok.false
 
-pub returns-then-not-ends_ok : goal.returns-then-not-ends_ok
-returns-then-not-ends_ok c =
-    let right-length : length_ok (length c.args.frame.now) ≡ true = length-right _ c.if-n-lt9.false c.if-n-gt269.false c.if-n-eq0.false in
-    let wrong = sym c.ends_ok.ensures ∙ c.if-not-ends_ok.true in
-    refused_read _ _ 4 (lit< tt) (λ A refusal after. ends_fail refusal after _ right-length wrong)
-
-pub returns-then-not-all : goal.returns-then-not-all
-returns-then-not-all c =
-    let right-length : length_ok (length c.args.frame.now) ≡ true = length-right _ c.if-n-lt9.false c.if-n-gt269.false c.if-n-eq0.false in
-    let right-ends : ends_ok c.args.frame.now ≡ true = sym c.ends_ok.ensures ∙ c.if-not-ends_ok.false in
-    let told : c.decode-tally.result.all ≡ all_digits (inner c.args.frame.now) = c.decode-tally.ensures.all_is ∙ ap all_digits (chars_are _ c.if-n-lt9.false) in
-    refused_read _ _ 5 (lit< tt) (λ A refusal after. digits_fail refusal after _ right-length right-ends (sym told ∙ c.if-not-all.true))
+right-digits : (c : Else-not-all) → all_digits (inner c.args.frame.now) ≡ true
+right-digits c = sym (c.decode-tally.ensures.all_is ∙ ap all_digits (chars_are _ c.if-n-lt9.false)) ∙ c.if-not-all.false
 
 -- where the checks come to the sum, the total decides
 decided : (frame : List ℕ) (total : ℕ) → 9 ≤ length frame → length frame ≤ 269 → (length frame % 2 ≡ 0 → ⊥) → ends_ok frame ≡ true → all_digits (inner frame) ≡ true
@@ -49,19 +38,44 @@ decided frame total low high odd ends digits is t e A refusal after =
     is (ap all_digits (chars_are frame low) ∙ digits) ∙ ap (λ (s : List ℕ). sum_of (bytes_of s) % 256) (chars_are frame low) in
     sum_decides refusal after _ t (length-right _ low high odd) ends digits (sum_by_total _ digits ∙ rw (← total_is) e)
 
+-- ---- the answers
+
+pub returns-then-n-lt9 : goal.returns-then-n-lt9
+returns-then-n-lt9 c = refused_read _ _ 3 (lit< tt) (λ A refusal after. length_fails refusal after _ (length_below _ c.if-n-lt9.true))
+
+pub returns-then-n-gt269 : goal.returns-then-n-gt269
+returns-then-n-gt269 c = refused_read _ _ 3 (lit< tt) (λ A refusal after. length_fails refusal after _ (length_above _ c.if-n-gt269.true))
+
+pub returns-then-n-eq0 : goal.returns-then-n-eq0
+returns-then-n-eq0 c = refused_read _ _ 3 (lit< tt) (λ A refusal after. length_fails refusal after _ (length_even _ c.if-n-eq0.true))
+
+pub returns-then-not-ends_ok : goal.returns-then-not-ends_ok
+returns-then-not-ends_ok c =
+    let long = right-length (goal.at.returns-then-not-ends_ok c).Else-n-eq0 in
+    let wrong = sym c.ends_ok.ensures ∙ c.if-not-ends_ok.true in
+    refused_read _ _ 4 (lit< tt) (λ A refusal after. ends_fail refusal after _ long wrong)
+
+pub returns-then-not-all : goal.returns-then-not-all
+returns-then-not-all c =
+    let p = goal.at.returns-then-not-all c in
+    let told : c.decode-tally.result.all ≡ all_digits (inner c.args.frame.now) = c.decode-tally.ensures.all_is ∙ ap all_digits (chars_are _ c.if-n-lt9.false) in
+    let wrong = sym told ∙ c.if-not-all.true in
+    refused_read _ _ 5 (lit< tt) (λ A refusal after. digits_fail refusal after _ (right-length p.Else-n-eq0) (right-ends p.Else-not-ends_ok) wrong)
+
 pub returns-then-total-ne0 : goal.returns-then-total-ne0
 returns-then-total-ne0 c =
-    let t = c.decode-tally.ensures in
-    let ends = sym c.ends_ok.ensures ∙ c.if-not-ends_ok.false in
-    let digits = sym (t.all_is ∙ ap all_digits (chars_are _ c.if-n-lt9.false)) ∙ c.if-not-all.false in
-    refused_read _ _ 6 (lit< tt) (decided _ _ c.if-n-lt9.false c.if-n-gt269.false c.if-n-eq0.false ends digits t.total_is false (ne_eqb _ 0 c.if-total-ne0.true))
+    let p = goal.at.returns-then-total-ne0 c in
+    refused_read _ _ 6 (lit< tt)
+    (decided _ _ c.if-n-lt9.false c.if-n-gt269.false c.if-n-eq0.false (right-ends p.Else-not-ends_ok) (right-digits p.Else-not-all) c.decode-tally.ensures.total_is
+    false (ne_eqb _ 0 c.if-total-ne0.true))
 
 pub returns : goal.returns
 returns c =
+    let p = goal.at.returns c in
     let t = c.decode-tally.ensures in
     let low = c.if-n-lt9.false in
-    let ends = sym c.ends_ok.ensures ∙ c.if-not-ends_ok.false in
-    let digits = sym (t.all_is ∙ ap all_digits (chars_are _ low)) ∙ c.if-not-all.false in
     let told = sym t.all_is ∙ c.if-not-all.false in
-    passed_read _ _ _ (decided _ _ low c.if-n-gt269.false c.if-n-eq0.false ends digits t.total_is true (eq-eqb _ 0 c.if-total-ne0.false)) (sym (length_contents _ low))
+    passed_read _ _ _
+    (decided _ _ low c.if-n-gt269.false c.if-n-eq0.false (right-ends p.Else-not-ends_ok) (right-digits p.Else-not-all) t.total_is true (eq-eqb _ 0 c.if-total-ne0.false))
+    (sym (length_contents _ low))
     (work_contents _ low c.if-n-gt269.false _ _ c.requires (t.laid told))

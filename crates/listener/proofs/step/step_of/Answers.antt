@@ -1,7 +1,6 @@
 -- Each return by the case that its tests leave. Assumes nothing.
 use mathlib.Core.Path.{sym, ◌∙◌}
 use native.Mathlib.Omega.{arith}
-use borrow.Author.Tests.{not-true, not-false}
 use Rattle.listener.proofs.Cases.{is_colon, flag_off, over_full, is_full, has_room}
 use Rattle.listener.proofs.step.step_of.Goals as goal
 

@@ -1,6 +1,5 @@
 -- Each early return is the check that the definition has there; past them the verdict is the rule's. Assumes nothing.
 use mathlib.Core.Path.{sym, ◌∙◌}
-use borrow.Author.Tests.{not-true, not-false}
 use Rattle.laws.specs.Checks.{judged}
 use Rattle.rules.specs.Verdict.{tried}
 use Rattle.rules.proofs.verdict.tried.Goals as goal

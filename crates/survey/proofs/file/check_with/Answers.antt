@@ -4,7 +4,18 @@ use borrow.Author.Tests.{not-true, not-false}
 use Rattle.image.proofs.Indices.{index_is, no_index}
 use Rattle.survey.proofs.Checking.{Known, Tabled, known, tabled}
 use Rattle.survey.proofs.Checking.{too_long_is_17, frames_wrong, stranger, address_0, no_table, part_again, rows_fall, rows_rise}
+use Rattle.survey.proofs.file.check_with.Goals.{Else-read-ne-FRAMES, Else-table_index-ge-TABLES}
 use Rattle.survey.proofs.file.check_with.Goals as goal
+
+-- what was read, once 17 passed
+read : (e : Else-read-ne-FRAMES) → Known e.args.file.now e.args.rows.now e.read_all-read.new.rows e.first_of-first.result e.read_all-read.result
+read e = known e.if-file-gt-FILE_MOST.false e.first_of-first.ensures e.read_all-read.ensures
+
+-- and once 18 did
+passed : (f : Else-table_index-ge-TABLES) → Tabled f.args.file.now f.args.rows.now f.read_all-read.new.rows f.first_of-first.result f.read_all-read.result
+passed f =
+    tabled (known f.if-file-gt-FILE_MOST.false f.first_of-first.ensures f.read_all-read.ensures) f.if-read-ne-FRAMES.false (not-false _ f.if-not-sheet.false)
+    f.if-first-eq0.false (index_is _ _ f.table_index.ensures f.if-table_index-ge-TABLES.false).0
 
 pub returns-then-file-gt-FILE_MOST : goal.returns-then-file-gt-FILE_MOST
 returns-then-file-gt-FILE_MOST c = sym (too_long_is_17 _ c.if-file-gt-FILE_MOST.true)
@@ -15,35 +26,27 @@ returns-then-read-ne-FRAMES c =
 
 pub returns-then-not-sheet : goal.returns-then-not-sheet
 returns-then-not-sheet c =
-    let read : let a = c.args in Known a.file.now a.rows.now c.read_all-read.new.rows c.first_of-first.result c.read_all-read.result = known c.if-file-gt-FILE_MOST.false c.first_of-first.ensures c.read_all-read.ensures in
-    sym (stranger read c.if-read-ne-FRAMES.false (not-true _ c.if-not-sheet.true))
+    sym (stranger (read (goal.at.returns-then-not-sheet c).Else-read-ne-FRAMES) c.if-read-ne-FRAMES.false (not-true _ c.if-not-sheet.true))
 
 pub returns-then-first-eq0 : goal.returns-then-first-eq0
 returns-then-first-eq0 c =
-    let read : let a = c.args in Known a.file.now a.rows.now c.read_all-read.new.rows c.first_of-first.result c.read_all-read.result = known c.if-file-gt-FILE_MOST.false c.first_of-first.ensures c.read_all-read.ensures in
-    sym (address_0 read c.if-read-ne-FRAMES.false c.if-first-eq0.true)
+    sym (address_0 (read (goal.at.returns-then-first-eq0 c).Else-read-ne-FRAMES) c.if-read-ne-FRAMES.false c.if-first-eq0.true)
 
 pub returns-then-table_index-ge-TABLES : goal.returns-then-table_index-ge-TABLES
 returns-then-table_index-ge-TABLES c =
-    let read : let a = c.args in Known a.file.now a.rows.now c.read_all-read.new.rows c.first_of-first.result c.read_all-read.result = known c.if-file-gt-FILE_MOST.false c.first_of-first.ensures c.read_all-read.ensures in
-    sym (no_table read c.if-read-ne-FRAMES.false (no_index _ _ c.table_index.ensures c.if-table_index-ge-TABLES.true))
+    let r = read (goal.at.returns-then-table_index-ge-TABLES c).Else-read-ne-FRAMES in
+    sym (no_table r c.if-read-ne-FRAMES.false (no_index _ _ c.table_index.ensures c.if-table_index-ge-TABLES.true))
 
 pub returns-then-not-sheet-2 : goal.returns-then-not-sheet-2
 returns-then-not-sheet-2 c =
-    let read : let a = c.args in Known a.file.now a.rows.now c.read_all-read.new.rows c.first_of-first.result c.read_all-read.result = known c.if-file-gt-FILE_MOST.false c.first_of-first.ensures c.read_all-read.ensures in
-    let passed : let a = c.args in Tabled a.file.now a.rows.now c.read_all-read.new.rows c.first_of-first.result c.read_all-read.result = tabled read c.if-read-ne-FRAMES.false (not-false _ c.if-not-sheet.false) c.if-first-eq0.false (index_is _ _ c.table_index.ensures c.if-table_index-ge-TABLES.false).0 in
-    sym (part_again passed (not-true _ c.if-not-sheet-2.true))
+    sym (part_again (passed (goal.at.returns-then-not-sheet-2 c).Else-table_index-ge-TABLES) (not-true _ c.if-not-sheet-2.true))
 
 pub returns-then-not-rise_then_stay : goal.returns-then-not-rise_then_stay
 returns-then-not-rise_then_stay c =
-    let read : let a = c.args in Known a.file.now a.rows.now c.read_all-read.new.rows c.first_of-first.result c.read_all-read.result = known c.if-file-gt-FILE_MOST.false c.first_of-first.ensures c.read_all-read.ensures in
-    let passed : let a = c.args in Tabled a.file.now a.rows.now c.read_all-read.new.rows c.first_of-first.result c.read_all-read.result = tabled read c.if-read-ne-FRAMES.false (not-false _ c.if-not-sheet.false) c.if-first-eq0.false (index_is _ _ c.table_index.ensures c.if-table_index-ge-TABLES.false).0 in
-    let room = c.requires in
-    sym (rows_fall passed (not-false _ c.if-not-sheet-2.false) room (sym c.rise_then_stay.ensures ∙ c.if-not-rise_then_stay.true))
+    let p = passed (goal.at.returns-then-not-rise_then_stay c).Else-table_index-ge-TABLES in
+    sym (rows_fall p (not-false _ c.if-not-sheet-2.false) c.requires (sym c.rise_then_stay.ensures ∙ c.if-not-rise_then_stay.true))
 
 pub returns : goal.returns
 returns c =
-    let read : let a = c.args in Known a.file.now a.rows.now c.read_all-read.new.rows c.first_of-first.result c.read_all-read.result = known c.if-file-gt-FILE_MOST.false c.first_of-first.ensures c.read_all-read.ensures in
-    let passed : let a = c.args in Tabled a.file.now a.rows.now c.read_all-read.new.rows c.first_of-first.result c.read_all-read.result = tabled read c.if-read-ne-FRAMES.false (not-false _ c.if-not-sheet.false) c.if-first-eq0.false (index_is _ _ c.table_index.ensures c.if-table_index-ge-TABLES.false).0 in
-    let room = c.requires in
-    sym (rows_rise passed (not-false _ c.if-not-sheet-2.false) room (sym c.rise_then_stay.ensures ∙ c.if-not-rise_then_stay.false))
+    let p = passed (goal.at.returns c).Else-table_index-ge-TABLES in
+    sym (rows_rise p (not-false _ c.if-not-sheet-2.false) c.requires (sym c.rise_then_stay.ensures ∙ c.if-not-rise_then_stay.false))

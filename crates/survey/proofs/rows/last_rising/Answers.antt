@@ -1,7 +1,6 @@
 -- The invariant: the rows passed rise. Assumes nothing.
 use mathlib.Core.Path.{refl, sym, ◌∙◌}
 use native.Mathlib.Omega.{arith}
-use borrow.Author.Tests.{not-false}
 use Rattle.laws.specs.Checks.{every}
 use Rattle.laws.proofs.Tests.{every_next}
 use Rattle.survey.proofs.rows.last_rising.Goals as goal

@@ -2,7 +2,6 @@
 use mathlib.Core.Path.{◌≡◌, refl, sym, ◌∙◌}
 use Prim.Native.Nat.{◌-◌}
 use native.Mathlib.Omega.{arith}
-use borrow.Author.Tests.{not-true, not-false}
 use Rattle.laws.specs.Checks.{every}
 use Rattle.laws.proofs.Tests.{every_next, every_fails}
 use Rattle.survey.specs.Rows.{stays_from}

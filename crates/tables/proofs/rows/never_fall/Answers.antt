@@ -1,7 +1,6 @@
 -- The invariant: the rows passed never fall. Assumes nothing.
 use mathlib.Core.Path.{◌≡◌, refl, sym, ◌∙◌}
 use native.Mathlib.Omega.{arith}
-use borrow.Author.Tests.{not-true, not-false}
 use Rattle.laws.specs.Checks.{every}
 use Rattle.laws.proofs.Tests.{every_next, every_fails}
 use Rattle.tables.specs.Rows.{never_fall}
