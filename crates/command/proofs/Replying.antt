@@ -6,9 +6,10 @@ use mathlib.Core.List.{List}
 use Prim.Native.Nat.{ℕ, ◌+◌, ◌≤◌}
 use native.Mathlib.Omega.{arith}
 use lib.ListN.{length, get_or, take, length-append}
+use Rattle.std.specs.Prelude.{Result, Ok, Err, IfOk}
 use Rattle.laws.proofs.Bytes.{lay-none, slice_most, length_two}
-use Rattle.output.specs.declared.answer.Answer.{Answer}
-use Rattle.output.specs.Output.{Does, written}
+use Rattle.output.specs.declared.refusal.Refusal.{Refusal}
+use Rattle.output.specs.Output.{Does, written, Answer}
 use Rattle.frame.specs.Built.{frame_of}
 use Rattle.image.specs.declared.cell.Cell.{Cell}
 use Rattle.image.specs.declared.version.Version.{Version}
@@ -18,11 +19,12 @@ use Rattle.image.specs.Usable.{usable}
 use Rattle.image.proofs.UsableFacts.{facts, Usable}
 use Rattle.storing.specs.Signature.{signature}
 use Rattle.storing.proofs.Elsewhere.{extent_fits}
+use Rattle.rules.specs.declared.order.Order.{Order}
 use Rattle.rules.specs.declared.rule.Act.{Act}
 use Rattle.rules.specs.declared.rule.Act.TheVariants.{Show, Sign, Store}
-use Rattle.rules.specs.declared.verdict.Verdict.{Verdict}
-use Rattle.rules.specs.declared.verdict.Verdict.TheVariants.{Refused, Accepted}
+use Rattle.rules.specs.Order.{Verdict, Refused, Accepted}
 use Rattle.rules.specs.Fits.{Fit, longest, FitAccepted, FitVerdict}
+use Rattle.rules.specs.Found.{verdict_of, body_of}
 use Rattle.command.specs.Act.{says}
 use Rattle.command.specs.Reply.{reply_of, done, sent, Serves}
 use Rattle.command.proofs.Doing.{opening}
@@ -34,6 +36,12 @@ body_fits c i f = rw i at f
 
 pub refused_sends : (c m out : List ℕ) {r : Verdict} {n : ℕ} → r ≡ Refused n → Serves (sent (done current r c m) out) (record { number = n; len = 0 }) m out
 refused_sends c m out i = rw i (record { number_is = refl; len_is = refl; image_is = refl; out_is = sym (lay-none out 0) })
+
+-- of an order's own body and the one that it is known to be, and of a refusal's none and any, the same is done
+pub body_given : (v : Version) (r : Result Order Refusal) (c m : List ℕ) → IfOk r (λ o. o.body.now ≡ c)
+    → done v (verdict_of r) (body_of r) m ≡ done v (verdict_of r) c m
+body_given v (Ok o) c m e = rw e refl
+body_given v (Err e) c m h = refl
 
 -- ---- an accepted body's reply
 

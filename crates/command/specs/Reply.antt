@@ -1,13 +1,12 @@
 -- What is done with a body by its verdict: the number, the reply, the image, and what is left in both lent buffers. Assumes nothing.
 use Rattle.std.specs.Prelude.{◌≡◌, List, [], ◌++◌, ℕ, ◌+◌, length, take}
 use Rattle.laws.specs.Bytes.{lay}
-use Rattle.output.specs.declared.answer.Answer.{Answer}
+use Rattle.output.specs.Output.{Answer}
 use Rattle.frame.specs.Built.{frame_of}
 use Rattle.image.specs.declared.cell.Cell.{Cell}
 use Rattle.image.specs.declared.version.Version.{Version}
 use Rattle.rules.specs.declared.rule.Act.{Act}
-use Rattle.rules.specs.declared.verdict.Verdict.{Verdict}
-use Rattle.rules.specs.declared.verdict.Verdict.TheVariants.{Refused, Accepted}
+use Rattle.rules.specs.Order.{Verdict, Refused, Accepted}
 use Rattle.command.specs.Act.{says, leaves, reads, writes}
 
 -- a number, the reply's characters, and the image. A refusal has no reply and leaves the image

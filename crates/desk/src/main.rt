@@ -1,7 +1,7 @@
 // The desk program: serves the frames that stand on standard input, and prints a line for each.
 #![tactic(auto)]
 
-ghost use Rattle.std.specs.Prelude.{◌≡◌, IfSome, OnOk, take};
+ghost use Rattle.std.specs.Prelude.{◌≡◌, IfSome, OnOk};
 ghost use Rattle.std.specs.Io.KnownBytes.{Appends};
 ghost use Rattle.desk_run.specs.Desk.{Lent, desk_image, desk_text};
 
@@ -27,32 +27,30 @@ fn serve<R: Read, W: Write>(input: &mut R, output: &mut W) -> io::Result<()>
     let (n, read) = intake::read_full(input, &mut buffer);
     let mut m = [0u8; IMAGE_LENGTH];
     let mut text = [0u8; TEXT_ROOM];
-    read.and(print_all(output, &buffer, n, &mut m, &mut text))
+    read.and(print_all(output, &buffer[..n], &mut m, &mut text))
 }
 
 // The text goes out in portions as large as it has room for, to the input's end: the image is the one that the whole input leaves, and what a writer
 // whose bytes are known was given is the desk's text. Where a portion cannot be written nobody is there to read the rest, and serving it does no harm;
-// the first failure is handed on.
+// the first failure is handed on. A portion is written before it is asked whether another follows, so that the test stands inside the loop.
 fn print_all<W: Write>(
     output: &mut W,
-    buffer: &[u8],
-    n: usize,
+    input: &[u8],
     m: &mut [u8],
     text: &mut [u8],
 ) -> io::Result<()>
-    requires { Lent buffer.now n m.old text.old }
-    ensures image { m.new ≡ desk_image (take n buffer.now) m.old }
+    requires { Lent m.old text.old }
+    ensures image { m.new ≡ desk_image input.now m.old }
     ensures text { OnOk result
-        (Appends (W.contents output.old) (W.contents output.new) (desk_text (take n buffer.now))) }
+        (Appends (W.contents output.old) (W.contents output.new) (desk_text input.now)) }
 {
     let mut written = Ok(());
-    let mut portion = desk_run::start(buffer, n, m, text);
+    let mut portion = desk_run::start(input, m, text);
     loop {
-        let len = portion.len;
-        written = written.and(output.write_all(&text[..len]));
-        if n <= portion.from {
+        written = written.and(output.write_all(&text[..portion.len]));
+        if input.len() <= portion.from {
             return written;
         }
-        portion = desk_run::run(&buffer[..n], portion.from, m, text);
+        portion = desk_run::run(input, portion.from, m, text);
     }
 }

@@ -6,7 +6,7 @@ use native.Mathlib.Omega.{arith}
 use lib.ListN.{length, take, length-take}
 use Rattle.laws.specs.Bytes.{zeros}
 use Rattle.laws.proofs.Bytes.{length-lay, length-zeros}
-use Rattle.output.specs.declared.answer.Answer.{Answer}
+use Rattle.output.specs.Output.{Answer}
 use Rattle.output.specs.Cursor.{Laid}
 use Rattle.image.specs.declared.version.Version.{Version}
 use Rattle.rules.specs.declared.switch.Switch.TheVariants.{Unsealed}

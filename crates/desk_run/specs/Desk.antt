@@ -81,10 +81,7 @@ pub record Runs (a : Ran) (input : List ℕ) (from : ℕ) (r : Progress) (image 
   pub fits : r.len ≤ length text
   pub onward : 300 ≤ length text → from < length input → from < r.from
 
--- what the first portion is asked with: n bytes were read into a buffer of one byte more than is served, so that a longer input shows; the image
--- has its full length, and the text room for a line
-pub record Lent (buffer : List ℕ) (n : ℕ) (m text : List ℕ) : Type 0 where
-  pub whole : length buffer ≡ 65537
-  pub counted : n ≤ length buffer
+-- what the first portion is asked with: the image has its full length, and the text room for a line
+pub record Lent (m text : List ℕ) : Type 0 where
   pub full : length m ≡ image_length current
   pub room : 300 ≤ length text

@@ -1,5 +1,4 @@
 // The input that was read, from its first portion on.
-ghost use Rattle.std.specs.Prelude.{take};
 ghost use Rattle.image.specs.Version.{current};
 ghost use Rattle.desk_run.specs.Desk.{started, Runs, Lent};
 
@@ -12,19 +11,19 @@ const INPUT_MOST: usize = 65536;
 // The room of the buffer that is read into: one byte more, so that a longer input shows.
 pub const INPUT_ROOM: usize = INPUT_MOST + 1;
 
-// The first portion, of the n bytes that were read. `run` goes on from where it stopped, until that is the input's end.
-pub fn start(buffer: &[u8], n: usize, m: &mut [u8], text: &mut [u8]) -> Progress
-    requires { Lent buffer.now n m.old text.old }
-    ensures { Runs (started current (take n buffer.now) m.old text.old) (take n buffer.now) 0
+// The first portion of what was read. `run` goes on from where it stopped, until that is the input's end.
+pub fn start(input: &[u8], m: &mut [u8], text: &mut [u8]) -> Progress
+    requires { Lent m.old text.old }
+    ensures { Runs (started current input.now m.old text.old) input.now 0
         result m.new text.new }
 {
-    if INPUT_MOST < n {
+    if INPUT_MOST < input.len() {
         let end = Cursor { at: 0 }.put_all(text, b"too long\n");
         return Progress {
-            from: n,
+            from: input.len(),
             len: end.at,
         };
     }
-    izk::fresh(m, 1);
-    run(&buffer[..n], 0, m, text)
+    izk::fresh(m, 1).unwrap();
+    run(input, 0, m, text)
 }

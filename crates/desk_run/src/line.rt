@@ -1,32 +1,26 @@
 // The line that is printed for a piece, laid at a write cursor.
-ghost use Rattle.std.specs.Prelude.{◌+◌, ◌≤◌, length};
+ghost use Rattle.std.specs.Prelude.{[], ◌+◌, ◌≤◌, length};
 ghost use Rattle.output.specs.Cursor.{Laid};
-ghost use Rattle.desk_run.specs.Line.{shown, line_of};
+ghost use Rattle.output.specs.Refusal.{number_of};
+ghost use Rattle.desk_run.specs.Line.{line_of};
 
-use output::Cursor;
+use output::{Cursor, Refusal};
 
-// What follows the number, before the line's end.
-fn put_shown(start: Cursor, text: &mut [u8], number: u8, reply: &[u8]) -> Cursor
-    requires { start.at + length (shown number reply.now) ≤ length text.old }
-    ensures { Laid start.at result.at text.old text.new (shown number reply.now) }
+// Of one that was served: 0, and the reply without the two bytes that end a frame.
+pub(crate) fn put_reply(start: Cursor, text: &mut [u8], reply: &[u8]) -> Cursor
+    requires { start.at + length (line_of 0 reply.now) ≤ length text.old }
+    ensures { Laid start.at result.at text.old text.new (line_of 0 reply.now) }
 {
-    if number != 0 {
-        return start;
-    }
-    let space = start.put(text, 32);
-    if reply.len() < 2 {
-        return space;
-    }
-    let e = reply.len() - 2;
-    space.put_all(text, &reply[..e])
+    let opened = start.put_all(text, b"0 ");
+    let shown = opened.put_all(text, &reply[..reply.len().saturating_sub(2)]);
+    shown.put(text, b'\n')
 }
 
-// The whole line.
-pub(crate) fn put_line(start: Cursor, text: &mut [u8], number: u8, reply: &[u8]) -> Cursor
-    requires { start.at + length (line_of number reply.now) ≤ length text.old }
-    ensures { Laid start.at result.at text.old text.new (line_of number reply.now) }
+// Of one that was refused: the number alone.
+pub(crate) fn put_refusal(start: Cursor, text: &mut [u8], refusal: Refusal) -> Cursor
+    requires { start.at + length (line_of (number_of refusal) []) ≤ length text.old }
+    ensures { Laid start.at result.at text.old text.new (line_of (number_of refusal) []) }
 {
-    let digits = text::put_decimal(start, text, number as u64);
-    let body = put_shown(digits, text, number, reply);
-    body.put(text, 10)
+    let digits = text::put_decimal(start, text, u64::from(u8::from(refusal)));
+    digits.put(text, b'\n')
 }

@@ -4,7 +4,7 @@ ghost use Rattle.output.specs.Cursor.{Laid};
 ghost use Rattle.image.specs.Version.{current};
 ghost use Rattle.desk_run.specs.Desk.{printed, left};
 
-use crate::line::put_line;
+use crate::line::{put_refusal, put_reply};
 use output::Cursor;
 use rules::Switch;
 
@@ -14,7 +14,8 @@ pub(crate) fn put_piece(start: Cursor, text: &mut [u8], m: &mut [u8], piece: &[u
         × (m.new ≡ left current m.old piece.now) }
 {
     let mut reply = [0u8; 269];
-    let answer = izk::serve(piece, Switch::Unsealed, m, &mut reply);
-    let n = answer.len;
-    put_line(start, text, answer.number, &reply[..n])
+    match izk::serve(piece, Switch::Unsealed, m, &mut reply) {
+        Ok(n) => put_reply(start, text, &reply[..n]),
+        Err(refusal) => put_refusal(start, text, refusal),
+    }
 }

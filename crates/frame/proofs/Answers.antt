@@ -1,20 +1,45 @@
 -- What each test says of the answer. Assumes nothing.
-use mathlib.Core.Path.{◌≡◌, sym}
+use mathlib.Core.Path.{◌≡◌, refl, sym, ◌∙◌}
 use mathlib.Core.List.{List}
-use mathlib.Core.Bool.{Bool, true, false, cond, and-false}
+use mathlib.Core.Bool.{Bool, true, false, cond, ◌&&◌, and-false}
 use Prim.Native.Nat.{ℕ, ◌+◌, ◌-◌, ◌*◌, ◌%◌, ◌≤◌, ◌<◌}
 use native.Mathlib.Omega.{arith}
 use lib.ListN.{length, get_or, take}
 use lib.Dec.{eqb}
 use borrow.Author.Tests.{le-leb, lt-leb, eq-eqb, eqb-true}
+use Rattle.std.specs.Prelude.{Option, Some, None}
+use Rattle.std.specs.Ordering.{is_le, nat_cmp}
+use Rattle.std.proofs.lemmas.Bool.Decides.{nat_tests}
 use Rattle.laws.specs.Checks.{judged, within}
 use Rattle.laws.proofs.Tests.{and_both, within_is, within_in, within_below, within_above}
-use Rattle.output.specs.declared.answer.Answer.{Answer}
-use Rattle.output.specs.Output.{refuse, written}
+use Rattle.output.specs.Output.{Answer, refuse, written}
 use Rattle.frame.specs.Digits.{all_digits}
 use Rattle.frame.specs.Apart.{length_ok, ends_ok, inner, contents_of, sum_ok, frame_checks, apart}
 use Rattle.frame.specs.Built.{frame_of, built}
 use Rattle.frame.specs.Read.{ReadInto}
+
+-- ---- a range, as the library tells it
+
+pub in_range : (a b n : ℕ) → (is_le (nat_cmp a n) && is_le (nat_cmp n b)) ≡ within a b n
+unfolding within
+in_range a b n = grind (arith, nat_tests)
+
+-- ---- a total, where all are digits
+
+module _ (b : Bool) (n : ℕ) {t : Option ℕ} (is : t ≡ cond b (Some n) None) where
+  pub told_some : (m : ℕ) → t ≡ Some m → (b ≡ true) × (m ≡ n)
+  told_some m e = go b (sym e ∙ is)
+    where
+      go : (d : Bool) → Some m ≡ cond d (Some n) None → (d ≡ true) × (m ≡ n)
+      go true h = (refl, cc)
+      go false h = absurd (cc)
+
+  pub told_none : t ≡ None → b ≡ false
+  told_none e = go b (sym e ∙ is)
+    where
+      go : (d : Bool) → None ≡ cond d (Some n) None → d ≡ false
+      go true h = absurd (cc)
+      go false h = refl
 
 -- ---- the length
 

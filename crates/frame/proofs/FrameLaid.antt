@@ -4,12 +4,12 @@ use mathlib.Core.List.{List, [], ◌∷◌, ◌++◌, append_assoc}
 use Prim.Native.Nat.{ℕ, ◌+◌, ◌*◌, ◌≤◌, ◌<◌}
 use native.Mathlib.Omega.{arith}
 use lib.ListN.{length, get_or, drop, length-append}
+use Rattle.std.specs.Prelude.{Ok}
 use Rattle.laws.specs.Bytes.{sum_of}
 use Rattle.laws.proofs.Sums.{sum-append}
 use Rattle.laws.proofs.Walks.{next, none_left}
-use Rattle.output.specs.declared.answer.Answer.{Answer}
 use Rattle.output.specs.Cursor.{Laid}
-use Rattle.output.specs.Output.{written, Does}
+use Rattle.output.specs.Output.{answer_of, written, Does}
 use Rattle.output.proofs.Laying.{laid_none, laid_then, laid_long}
 use Rattle.frame.specs.declared.writer.Writer.{Writer}
 use Rattle.frame.specs.Digits.{chars_of, check_of, checksum_of}
@@ -67,11 +67,11 @@ unfolding frame_of
 joined c k e = rw (e, chars_append) (sym (append_assoc (58 ∷ chars_of c) (chars_of (checksum_of c ∷ [])) (13 ∷ (10 ∷ []))))
 
 -- begun, spelt and ended it is written
-pub frame_written : (c o o₁ o₂ o₃ : List ℕ) (w w' : Writer) (r : Answer) → Begins o w o₁ → Spells w o₁ c w' o₂ → Ends w' o₂ r o₃
-    → Does (written o (frame_of c)) r o₃
+pub frame_written : (c o o₁ o₂ o₃ : List ℕ) (w w' : Writer) (len : ℕ) → Begins o w o₁ → Spells w o₁ c w' o₂ → Ends w' o₂ len o₃
+    → Does (written o (frame_of c)) (answer_of (Ok len)) o₃
 unfolding checksum_of
-frame_written c o o₁ o₂ o₃ w w' r b s e =
+frame_written c o o₁ o₂ o₃ w w' len b s e =
     let k : check_of w'.total ≡ checksum_of c = omega (arith, b.total_is, s.total_is) in
-    let l : Laid 0 r.len o o₃ (frame_of c) =
+    let l : Laid 0 len o o₃ (frame_of c) =
     rw (← joined c _ k) (laid_then _ _ _ _ _ _ _ _ (laid_then _ _ _ _ _ _ _ _ b.opened s.spelt) e.closed) in
-    record { number_is = e.number_is; len_is = omega (arith, l.past); out_is = l.laid }
+    record { number_is = refl; len_is = omega (arith, l.past); out_is = l.laid }

@@ -6,12 +6,15 @@ use Prim.Native.Nat.{ℕ, ◌-◌, ◌%◌, ◌≤◌}
 use native.Mathlib.Omega.{arith}
 use lib.ListN.{length, take}
 use borrow.Author.Tests.{leb-true}
+use Rattle.std.specs.Prelude.{Err}
 use Rattle.laws.specs.Checks.{judged, first_failing, AllPass, rising_from}
 use Rattle.laws.proofs.Bytes.{Bytes, bytes_slice}
 use Rattle.laws.proofs.Checks as Checks
 use Rattle.laws.proofs.Checks.{Judged, judge, judged_number, judged_passed, none_fails}
-use Rattle.output.specs.declared.answer.Answer.{Answer}
-use Rattle.output.specs.Output.{OutputAfter, refuse, written}
+use Rattle.output.specs.declared.refusal.Refusal.{Refusal}
+use Rattle.output.specs.Refusal.{number_of}
+use Rattle.output.specs.Output.{Answer, answer_of, OutputAfter, refuse, written}
+use Rattle.output.proofs.Refusals.{above_0}
 use Rattle.frame.specs.Digits.{all_digits}
 use Rattle.frame.specs.Apart.{ends_ok, inner, body_of, contents_of, sum_ok, frame_checks, apart_checks, apart}
 use Rattle.frame.specs.Read.{ReadInto}
@@ -87,6 +90,11 @@ module _ {f w : List ℕ} {r : Answer} (d : ReadInto f r w) where
         let l = ap (λ (a : Answer). a.len) (d.answer_is ∙ judged_passed _ (frame_checks f) _ read_passes) in
         let c = contents_length f read_passes in
         (l, omega arith, ap length (d.contents_are zero_is) ∙ sym l)
+
+-- a refusal is that of every reading of the checks
+pub read_err : {f w : List ℕ} (e : Refusal) → ReadInto f (answer_of (Err e)) w → (A : Type 0) (refusal : ℕ → A) (after : A)
+    → judged refusal (frame_checks f) after ≡ refusal (number_of e)
+read_err e d = read_refuses d (λ z. let p = above_0 e in omega arith)
 
 -- an answer of number 0 says that all checks passed, room for the contents among them
 pub taken_0 : (f out : List ℕ) → (apart f out).number ≡ 0 → (132 ≤ length out) × AllPass (frame_checks f)

@@ -13,8 +13,7 @@ use Rattle.laws.specs.Checks.{judged, AllPass, within, all}
 use Rattle.laws.proofs.Bytes.{Bytes, bytes_none, bytes_cons, bytes_append}
 use Rattle.laws.proofs.Tests.{within_is, all_then}
 use Rattle.laws.proofs.Walks.{next2}
-use Rattle.output.specs.declared.answer.Answer.{Answer}
-use Rattle.output.specs.Output.{written, Does}
+use Rattle.output.specs.Output.{Answer, written, Does}
 use Rattle.output.proofs.Outcomes.{stands_there}
 use Rattle.frame.specs.Digits.{all_digits, chars_of, checksum_of}
 use Rattle.frame.specs.Capitals.{capital_of, capital_form, no_small}

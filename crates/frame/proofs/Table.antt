@@ -1,15 +1,17 @@
 -- Digits told and read by a table, and two halves put together by a shift. Assumes nothing.
 use mathlib.Core.Path.{◌≡◌, refl, sym, ap, ◌∙◌}
-use mathlib.Core.List.{List, ◌∷◌}
+use mathlib.Core.List.{List, [], ◌∷◌}
 use mathlib.Core.Bool.{Bool, true, false, cond, ◌&&◌, and_assoc, and-true, and-false}
-use Prim.Native.Nat.{ℕ, ◌+◌, ◌*◌, ◌%◌, ◌^◌, ◌≤◌, ◌<◌}
+use Prim.Native.Nat.{ℕ, zero, suc, ◌+◌, ◌*◌, ◌%◌, ◌^◌, ◌≤◌, ◌<◌}
 use native.Mathlib.Decide.{dec_lt}
 use native.Mathlib.Omega.{arith}
 use lib.ListN.{length, get_or, drop}
+use lib.Seq.{get_or-take, get_or-drop}
 use lib.Bits.{bit_or, or_add_and, and_le_l, and_le_r, or_lt, or_shifted}
 use lib.Pow.{shl_exact}
 use lib.Dec.{ltb, leb, eqb}
 use borrow.Author.Tests.{lt-ltb, le-ltb, leb-true, eqb-true}
+use Rattle.std.specs.Simd.{first_chunks}
 use Rattle.laws.specs.Checks.{all}
 use Rattle.laws.proofs.Tests.{every_at}
 use Rattle.laws.proofs.Walks.{next2}
@@ -55,6 +57,25 @@ byte_read : (t : List ℕ) → reads_digits t ≡ true → (a b : ℕ) → a < 2
     → 16 * value_of a + value_of b ≡ bit_or (get_or t a 0 * 2 ^ 4 % 2 ^ 8) (get_or t b 0)
 byte_read t ok a b p q d e =
     rw (entry_value t ok a p d, entry_value t ok b q e) (sym (halves_join (value_of a) (value_of b) (value_half a d) (value_half b e)))
+
+-- ---- a pair of characters
+
+module _ (n : ℕ) (s : List ℕ) where
+  pair : (k j : ℕ) → k < n → j < 2 → get_or (get_or (first_chunks 2 n s) k []) j 0 ≡ get_or s (2 * k + j) 0
+  pair k j h low = at n k s h
+    where
+      at : (n k : ℕ) (s : List ℕ) → k < n → get_or (get_or (first_chunks 2 n s) k []) j 0 ≡ get_or s (2 * k + j) 0
+      at zero k s h = absurd (omega arith)
+      at (suc n) zero s h = let e : j ≡ 2 * 0 + j = omega arith in get_or-take 2 s j 0 low ∙ ap (λ (i : ℕ). get_or s i 0) e
+      at (suc n) (suc k) s h =
+          let e : 2 + (2 * k + j) ≡ 2 * suc k + j = omega arith in
+          at n k (drop 2 s) (omega arith) ∙ get_or-drop 2 s (2 * k + j) 0 ∙ ap (λ (i : ℕ). get_or s i 0) e
+
+  pub pair_first : (k : ℕ) → k < n → get_or (get_or (first_chunks 2 n s) k []) 0 0 ≡ get_or s (2 * k) 0
+  pair_first k h = let e : 2 * k + 0 ≡ 2 * k = omega arith in pair k 0 h (omega arith) ∙ ap (λ (i : ℕ). get_or s i 0) e
+
+  pub pair_second : (k : ℕ) → k < n → get_or (get_or (first_chunks 2 n s) k []) 1 0 ≡ get_or s (2 * k + 1) 0
+  pair_second k h = pair k 1 h (omega arith)
 
 -- ---- a turn of the loop
 

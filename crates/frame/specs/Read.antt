@@ -1,9 +1,8 @@
 -- Reading a frame, as code does it: digits by a table, and a whole frame into a work array. Assumes nothing.
-use Rattle.std.specs.Prelude.{◌≡◌, List, Bool, true, cond, ℕ, ◌%◌, length, get_or, take, leb, eqb}
+use Rattle.std.specs.Prelude.{◌≡◌, List, Bool, true, cond, Option, Some, None, ℕ, ◌%◌, length, get_or, take, leb, eqb}
 use Rattle.laws.specs.Bytes.{lay, sum_of}
 use Rattle.laws.specs.Checks.{every, judged}
-use Rattle.output.specs.declared.answer.Answer.{Answer}
-use Rattle.frame.specs.declared.digits.Tally.{Tally}
+use Rattle.output.specs.Output.{Answer}
 use Rattle.frame.specs.Digits.{is_digit, all_digits, value_of, bytes_of}
 use Rattle.frame.specs.Apart.{contents_of, frame_checks}
 
@@ -14,11 +13,10 @@ reads_at t c = cond (is_digit c) (eqb (get_or t c 0) (value_of c)) (leb 16 (get_
 unfoldable pub reads_digits : List ℕ → Bool
 reads_digits t = every (reads_at t) 256
 
--- characters were read: whether all are digits; if so, their bytes lie over the first of a work array and add up to the total, carries dropped, and
--- else nothing is said of either
-pub record Decoded (s old : List ℕ) (t : Tally) (new : List ℕ) : Type 0 where
-  pub all_is : t.all ≡ all_digits s
-  pub total_is : all_digits s ≡ true → t.total ≡ sum_of (bytes_of s) % 256
+-- characters were read: the total of their bytes, carries dropped, if all are digits, and else none; where they are, the bytes lie over the first of a
+-- work array, and else nothing is said of it
+pub record Decoded (s old : List ℕ) (t : Option ℕ) (new : List ℕ) : Type 0 where
+  pub total_is : t ≡ cond (all_digits s) (Some (sum_of (bytes_of s) % 256)) None
   pub laid : all_digits s ≡ true → new ≡ lay old 0 (bytes_of s)
 
 -- a frame was read: the number of its first check that fails, with length 0; where none does, 0 and how long the contents are, which then stand at the

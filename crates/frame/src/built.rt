@@ -1,25 +1,22 @@
 // Building a frame.
-ghost use Rattle.output.specs.Output.{Does};
+ghost use Rattle.output.specs.Output.{Does, answer_of};
 ghost use Rattle.frame.specs.Built.{built};
 
 use crate::writer::Writer;
-use output::Answer;
+use output::Refusal;
 
 // Check 3 comes before check 2 here, and here alone.
-pub fn build(contents: &[u8], out: &mut [u8]) -> Answer
-    ensures { Does (built contents.now out.old) result out.new }
+pub fn build(contents: &[u8], out: &mut [u8]) -> Result<usize, Refusal>
+    ensures { Does (built contents.now out.old) (answer_of result) out.new }
 {
     let n = contents.len();
-    if n < 2 {
-        return Answer { number: 3, len: 0 };
-    }
-    if 132 < n {
-        return Answer { number: 3, len: 0 };
+    if !(2..=132).contains(&n) {
+        return Err(Refusal::Length);
     }
     if out.len() < 2 * n + 5 {
-        return Answer { number: 2, len: 0 };
+        return Err(Refusal::Room);
     }
     let start = Writer::begin(out);
     let body = start.put_all(out, contents);
-    body.end(out)
+    Ok(body.end(out))
 }

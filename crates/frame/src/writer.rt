@@ -1,12 +1,13 @@
 // The frame writer: a write cursor that lays the characters of bytes and carries their total, so that a reply goes straight to the output.
+// By value, as document 01 names it: the output comes beside it, and who lays says that there is room.
 ghost use Rattle.std.specs.Prelude.{[], ◌∷◌, ◌+◌, ◌*◌, ◌≤◌, length};
 ghost use Rattle.output.specs.Cursor.{Laid};
 ghost use Rattle.frame.specs.Digits.{chars_of};
 ghost use Rattle.frame.specs.Written.{Begins, Spells, Ends};
 
 use crate::digits::char_of;
-use crate::total::{added, check_of};
-use output::{Answer, Cursor};
+use crate::total::check_of;
+use output::Cursor;
 
 // A frame as it is written: where its next character goes, and the total of its bytes so far.
 #[derive(Clone, Copy)]
@@ -21,7 +22,7 @@ impl Writer {
         ensures { Begins out.old result out.new }
     {
         let start = Cursor { at: 0 };
-        let next = start.put(out, 58);
+        let next = start.put(out, b':');
         Writer {
             at: next.at,
             total: 0,
@@ -36,7 +37,8 @@ impl Writer {
         let end = put_byte(start, out, b);
         Writer {
             at: end.at,
-            total: added(self.total, b),
+            // a carry is dropped here as where a frame is read
+            total: self.total.wrapping_add(b),
         }
     }
 
@@ -45,27 +47,22 @@ impl Writer {
         ensures { Spells self out.old src.now result out.new }
     {
         let mut w = self;
-        let mut i = 0;
-        while i < src.len() {
-            w = w.put(out, src[i]);
-            i += 1;
+        for b in src {
+            w = w.put(out, *b);
         }
         w
     }
 
-    // The checksum and the two last characters.
-    pub fn end(self, out: &mut [u8]) -> Answer
+    // The checksum and the two last characters; how long the frame is.
+    pub fn end(self, out: &mut [u8]) -> usize
         requires { self.at + 4 ≤ length out.old }
         ensures { Ends self out.old result out.new }
     {
         let start = Cursor { at: self.at };
         let ends = put_byte(start, out, check_of(self.total));
-        let last = ends.put(out, 13);
-        let end = last.put(out, 10);
-        Answer {
-            number: 0,
-            len: end.at,
-        }
+        let last = ends.put(out, b'\r');
+        let end = last.put(out, b'\n');
+        end.at
     }
 }
 
@@ -74,6 +71,6 @@ fn put_byte(start: Cursor, out: &mut [u8], b: u8) -> Cursor
     requires { start.at + 2 ≤ length out.old }
     ensures { Laid start.at result.at out.old out.new (chars_of (b ∷ [])) }
 {
-    let next = start.put(out, char_of(b / 16));
-    next.put(out, char_of(b % 16))
+    let next = start.put(out, char_of(b >> 4));
+    next.put(out, char_of(b & 15))
 }

@@ -1,17 +1,16 @@
 -- A fresh image: how code comes by it, how it begins, that it is usable, and that it holds no part. Assumes nothing.
 use mathlib.Core.Path.{◌≡◌, refl, sym, ap, ◌∙◌}
 use mathlib.Core.Logic.{◌≢◌}
-use mathlib.Core.List.{List, [], ◌∷◌, ◌++◌, append-nil}
+use mathlib.Core.List.{List, [], ◌∷◌, ◌++◌}
 use mathlib.Core.Bool.{true}
-use Prim.Native.Nat.{ℕ, ◌+◌, ◌≤◌, ◌<◌}
+use Prim.Native.Nat.{ℕ, ◌+◌, ◌/◌, ◌%◌, ◌≤◌, ◌<◌}
 use native.Mathlib.Omega.{arith}
-use lib.ListN.{length, get_or, drop, set, drop_of_length-le}
+use lib.ListN.{length, get_or, drop, set, replicate}
 use borrow.Author.Tests.{eq-eqb, ne_eqb}
-use borrow.Author.Fill.{fill_more}
-use Rattle.laws.specs.Bytes.{slice, zeros, word_at}
+use Rattle.laws.specs.Bytes.{slice, lay, zeros, two, word_at}
 use Rattle.laws.specs.Checks.{judged}
 use Rattle.laws.specs.Bits.{bit, ones_in}
-use Rattle.laws.proofs.Bytes.{length-zeros, length-lay, lay_at, lay_out, lay_is, slice-lay, zeros_at}
+use Rattle.laws.proofs.Bytes.{length-zeros, length-lay, lay_at, lay_out, lay_start, lay-append, lay_one, slice-lay, zeros_at}
 use Rattle.laws.proofs.Bits.{bit-none}
 use Rattle.image.specs.declared.cell.Cell.TheVariants.{Errors}
 use Rattle.image.specs.declared.version.Version.{Version}
@@ -24,26 +23,27 @@ use Rattle.image.specs.Fresh.{fresh}
 use Rattle.image.specs.Held.{missing_from, lowest_missing, held_of, held_parts}
 use Rattle.image.proofs.UsableFacts.{least_length, usable_of}
 
--- ---- cleared from the front
+-- ---- cleared, and marked from the front
 
-pub clear_none : (m : List ℕ) → m ≡ zeros 0 ++ drop 0 m
+zeros_are : (n : ℕ) → zeros n ≡ replicate n 0
 unfolding zeros
-clear_none m = refl
+zeros_are n = refl
 
-pub clear_next : (m m₀ : List ℕ) (i : ℕ) → i < length m₀ → m ≡ zeros i ++ drop i m₀ → set m i 0 ≡ zeros (i + 1) ++ drop (i + 1) m₀
-unfolding zeros
-clear_next m m₀ i h e = rw e (fill_more i 0 m₀ h)
+marked : (z : List ℕ) (n a : ℕ) → 3 ≤ length z
+    → set (lay ((73 ∷ (90 ∷ (75 ∷ []))) ++ drop 3 z) 3 (two n)) 5 a ≡ lay z 0 (73 ∷ (90 ∷ (75 ∷ (n / 256 ∷ (n % 256 ∷ (a ∷ []))))))
+unfolding two
+marked z n a h =
+    let mark : List ℕ = 73 ∷ (90 ∷ (75 ∷ [])) in
+    let behind : List ℕ = n / 256 ∷ (n % 256 ∷ []) in
+    rw (← lay_start z mark h, lay_one)
+    (sym (lay-append z 0 (mark ++ behind) (a ∷ []) ∙ ap (λ (l : List ℕ). lay l 5 (a ∷ [])) (lay-append z 0 mark behind)))
 
-pub clear-done : (m m₀ : List ℕ) (i : ℕ) → i ≤ length m₀ → length m₀ ≤ i → m ≡ zeros i ++ drop i m₀ → m ≡ zeros (length m₀)
-clear-done m m₀ i h g e =
-    let n : i ≡ length m₀ = omega arith in
-    e ∙ rw (drop_of_length-le m₀ g, append-nil) (ap zeros n)
-
--- and marked from the front
-pub fresh_is : (z m : List ℕ) (a : ℕ) → length m ≡ image_length current → z ≡ zeros (length m)
-    → set (set (set (set (set (set z 0 73) 1 90) 2 75) 3 0) 4 (version_number current)) 5 a ≡ fresh current a
+pub fresh_is : (m z : List ℕ) (a : ℕ) → length m ≡ image_length current → z ≡ replicate (length m) 0
+    → set (lay ((73 ∷ (90 ∷ (75 ∷ []))) ++ drop 3 z) 3 (two (version_number current))) 5 a ≡ fresh current a
 unfolding fresh
-fresh_is z m a h e = rw (e, h) (sym (lay_is _ _ _))
+fresh_is m z a h e =
+    let f : z ≡ zeros (image_length current) = e ∙ sym (zeros_are (length m)) ∙ ap zeros h in
+    rw f (marked (zeros (image_length current)) (version_number current) a (omega (arith, length-zeros (image_length current))))
 
 -- ---- its bytes
 

@@ -2,13 +2,14 @@
 use mathlib.Core.Path.{◌≡◌, refl}
 use mathlib.Core.Logic.{◌⊎◌, inl, inr}
 use mathlib.Core.List.{[], ◌∷◌, map}
-use mathlib.Core.Bool.{Bool, true, false, cond}
+use mathlib.Core.Bool.{Bool, true, false}
 use Prim.Native.Nat.{ℕ, ◌-◌, ◌≤◌, ◌<◌}
 use native.Mathlib.Omega.{arith}
 use borrow.Author.Tests.{lt-ltb, le-ltb}
+use Rattle.std.specs.Prelude.{Some, None}
 use Rattle.laws.specs.Checks.{within}
 use Rattle.laws.proofs.Tests.{fails, or_either, within_is, within_in, within_above}
-use Rattle.image.specs.Cell.{is_table, table_index}
+use Rattle.image.specs.Cell.{is_table, table_index, index_named}
 
 pub table_indices : map table_index (1 ∷ 2 ∷ 3 ∷ 4 ∷ 5 ∷ 6 ∷ 7 ∷ 8 ∷ 11 ∷ 12 ∷ 13 ∷ 14 ∷ 15 ∷ 16 ∷ 17 ∷ 18 ∷ [])
     ≡ 0 ∷ 1 ∷ 2 ∷ 3 ∷ 4 ∷ 5 ∷ 6 ∷ 7 ∷ 8 ∷ 9 ∷ 10 ∷ 11 ∷ 12 ∷ 13 ∷ 14 ∷ 15 ∷ []
@@ -58,15 +59,20 @@ one_index t u h g e = go (table_cases t h) (table_cases u g)
     go (inr p) (inl q) = omega arith
     go (inr p) (inr q) = omega arith
 
--- ---- 16 is no index
+-- ---- what a number names
 
-module _ (t k : ℕ) (e : k ≡ cond (is_table t) (table_index t) 16) where
-  pub index_is : k < 16 → (is_table t ≡ true) × (k ≡ table_index t)
-  index_is l = go (is_table t) refl
+module _ (t : ℕ) where
+  pub index_is : {k : ℕ} → index_named t ≡ Some k → (is_table t ≡ true) × (k ≡ table_index t)
+  unfolding index_named
+  index_is {k} e = go (is_table t) refl
     where
       go : (b : Bool) → is_table t ≡ b → (is_table t ≡ true) × (k ≡ table_index t)
-      go true f = (f, rw f at e)
-      go false f = let z : k ≡ 16 = rw f at e in absurd (omega arith)
+      go true f = (f, let z : Some (table_index t) ≡ Some k = rw f at e in cc)
+      go false f = let z : None ≡ Some k = rw f at e in cc
 
-  pub no_index : 16 ≤ k → is_table t ≡ false
-  no_index l = fails (is_table t) (λ f. let z : k ≡ table_index t = rw f at e in let p = index_below t f in omega arith)
+  pub no_index : index_named t ≡ None → is_table t ≡ false
+  unfolding index_named
+  no_index e = fails (is_table t) (λ f. let z : Some (table_index t) ≡ None = rw f at e in cc)
+
+  pub named_below : {k : ℕ} → index_named t ≡ Some k → k < 16
+  named_below e = let p = index_is e in omega (arith, index_below t p.0)

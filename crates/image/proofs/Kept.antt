@@ -9,13 +9,12 @@ use native.Mathlib.Decide.{dec_lt}
 use native.Mathlib.Omega.{arith}
 use lib.ListN.{length}
 use borrow.Author.Tests.{ltb-true, lt-ltb, le-ltb}
+use Rattle.std.specs.Prelude.{Option, Some, None}
 use Rattle.laws.specs.Checks.{all}
 use Rattle.laws.proofs.Tests.{never, all_of}
 use Rattle.laws.proofs.Bytes.{In}
 use Rattle.image.specs.declared.cell.Cell.{Cell}
 use Rattle.image.specs.declared.cell.Cell.TheVariants.{Mask, Mode, Clock, Constants, Errors, Part, Table}
-use Rattle.image.specs.declared.cell.Signed.{Signed}
-use Rattle.image.specs.declared.cell.Signed.TheVariants.{Nowhere, At}
 use Rattle.image.specs.declared.version.Version.TheVariants.{V2}
 use Rattle.image.specs.Version.{image_length}
 use Rattle.image.specs.Cell.{offset, size, is_cell, is_item, run, items, item_at, cells_of}
@@ -29,9 +28,9 @@ unfolding items run
 items_32 = refl
 
 -- every other offset, n of them
-unfoldable pub every_other : ℕ → ℕ → List Signed
+unfoldable pub every_other : ℕ → ℕ → List (Option ℕ)
 every_other o zero = []
-every_other o (suc n) = At o ∷ every_other (2 + o) n
+every_other o (suc n) = Some o ∷ every_other (2 + o) n
 
 pub items_in_order : map signature_word items ≡ every_other 23753 32
 unfolding items run every_other
@@ -82,17 +81,17 @@ unfolding item_at
 at_table k l = rw (lt-ltb k 16 l)
 
 -- the word of the i-th is the i-th
-pub item_word : (i : ℕ) → i < 32 → signature_word (item_at i) ≡ At (kept_offset i)
+pub item_word : (i : ℕ) → i < 32 → signature_word (item_at i) ≡ Some (kept_offset i)
 item_word i l = go (dec_lt i 16) (dec_lt i 24)
   where
-    go : Dec (i < 16) → Dec (i < 24) → signature_word (item_at i) ≡ At (kept_offset i)
+    go : Dec (i < 16) → Dec (i < 24) → signature_word (item_at i) ≡ Some (kept_offset i)
     go (yes a) b = rw (at_table i a)
     go (no a) (yes b) =
         let e : 16 + (i - 16) ≡ i = omega arith in
-        subst (λ (j : ℕ). signature_word (item_at j) ≡ At (kept_offset j)) e (rw (at_constants (i - 16) (omega arith)))
+        subst (λ (j : ℕ). signature_word (item_at j) ≡ Some (kept_offset j)) e (rw (at_constants (i - 16) (omega arith)))
     go (no a) (no b) =
         let e : 24 + (i - 24) ≡ i = omega arith in
-        subst (λ (j : ℕ). signature_word (item_at j) ≡ At (kept_offset j)) e (rw (at_errors (i - 24) (omega arith)))
+        subst (λ (j : ℕ). signature_word (item_at j) ≡ Some (kept_offset j)) e (rw (at_errors (i - 24) (omega arith)))
 
 -- ---- a cell or an item counts nowhere, or in the i-th
 
@@ -100,9 +99,9 @@ pub record Counted (d : Cell) (i : ℕ) : Type 0 where
   pub held : is_cell d ≡ true → (i < 32) × Memᴰ d (cells_of (item_at i))
   pub is : is_item d ≡ true → (i < 32) × (item_at i ≡ d)
 
-pub data Counts (d : Cell) : Signed → Type 0 where
-  nowhere : (is_item d ≡ true → ⊥) → Counts d Nowhere
-  in_word : (i : ℕ) → Counted d i → Counts d (At (kept_offset i))
+pub data Counts (d : Cell) : Option ℕ → Type 0 where
+  nowhere : (is_item d ≡ true → ⊥) → Counts d None
+  in_word : (i : ℕ) → Counted d i → Counts d (Some (kept_offset i))
 
 pub counts_view : (d : Cell) → Counts d (signature_word d)
 counts_view Mask = nowhere never
@@ -130,14 +129,14 @@ pub kept_words : (i : ℕ) → i < 32 → (j : ℕ) → In (kept_offset i) 2 j �
 kept_words i l j a = inr (inl (omega arith, omega arith))
 
 -- and lies inside an image
-abbrev pub place : Signed → ℕ
-place Nowhere = 0
-place (At o) = o
+abbrev pub place : Option ℕ → ℕ
+place None = 0
+place (Some o) = o
 
 pub place_inside : (d : Cell) → (is_cell d ≡ true) ⊎ (is_item d ≡ true) → place (signature_word d) + 2 ≤ image_length V2
 place_inside d h = go (counts_view d) h
   where
-    go : {x : Signed} → Counts d x → (is_cell d ≡ true) ⊎ (is_item d ≡ true) → place x + 2 ≤ image_length V2
+    go : {x : Option ℕ} → Counts d x → (is_cell d ≡ true) ⊎ (is_item d ≡ true) → place x + 2 ≤ image_length V2
     go (nowhere a) h = omega arith
     go (in_word i a) (inl h) = omega (arith, (a.held h).0)
     go (in_word i a) (inr h) = omega (arith, (a.is h).0)

@@ -1,11 +1,16 @@
 -- What the lowest missing part is, and that a word's trailing ones give it. Assumes nothing.
-use mathlib.Core.Path.{◌≡◌, refl, ap}
+use mathlib.Core.Path.{◌≡◌, refl, sym, ap}
 use mathlib.Core.Logic.{◌≢◌, ◌⊎◌, inl, inr}
+use mathlib.Core.Bool.{not}
 use Prim.Native.Nat.{ℕ, zero, suc, ◌+◌, ◌-◌, ◌^◌, ◌%◌, ◌≤◌, ◌<◌}
 use native.Mathlib.Nat.{div-eq_of_lt}
 use native.Mathlib.Decide.{ℕ_discrete, dec_lt}
 use native.Mathlib.Omega.{arith}
 use lib.Arith.{lt_of_le-ne}
+use lib.Dec.{eqb}
+use borrow.Author.Tests.{eq-eqb, ne_eqb}
+use Rattle.std.specs.Prelude.{unwrap_or}
+use Rattle.std.specs.Bool.{then_some}
 use Rattle.laws.specs.Bits.{bit}
 use Rattle.laws.proofs.Bits.{bit_cases, Gap}
 use Rattle.image.specs.Held.{missing_from, lowest_missing}
@@ -73,3 +78,11 @@ module _ (w t : ℕ) (small : w < 2 ^ 11) (gap : Gap 16 w t) where
       let l : t < 11 = lt_of_le-ne ones_most n in
       let e : t + 1 - 1 ≡ t = omega arith in
       one_lowest 11 w _ _ (lowest_missing_is w) (inr (omega arith, omega arith, rw e (gap.2 (omega arith)), rw e gap.1))
+
+  -- as code has it: one more than the ones, save where they are all eleven
+  pub missing_is : unwrap_or (then_some (not (eqb t 11)) (t + 1)) 0 ≡ lowest_missing w
+  missing_is = go (ℕ_discrete t 11)
+    where
+      go : Dec (t ≡ 11) → unwrap_or (then_some (not (eqb t 11)) (t + 1)) 0 ≡ lowest_missing w
+      go (yes e) = rw (eq-eqb t 11 e) (sym (none_missing e))
+      go (no n) = rw (ne_eqb t 11 n) (sym (one_missing n))

@@ -1,12 +1,10 @@
 -- The cells of document 01 ("Cells", "The image"): where each stands, how long it is, how a request names it, and all 195 of them.
 -- Assumes nothing.
 use mathlib.Core.List.{List, [], ◌∷◌, ◌++◌, Memᴰ}
-use Rattle.std.specs.Prelude.{Bool, true, false, cond, ◌&&◌, ◌||◌, ℕ, zero, suc, ◌+◌, ◌-◌, ◌*◌, leb, ltb}
+use Rattle.std.specs.Prelude.{Bool, true, false, cond, ◌&&◌, ◌||◌, ℕ, zero, suc, ◌+◌, ◌-◌, ◌*◌, leb, ltb, Option, Some, None}
 use Rattle.laws.specs.Checks.{within}
 use Rattle.image.specs.declared.cell.Cell.{Cell}
 use Rattle.image.specs.declared.cell.Cell.TheVariants.{Mask, Mode, Clock, Constants, Errors, Part, Table}
-use Rattle.image.specs.declared.cell.Named.{Named}
-use Rattle.image.specs.declared.cell.Named.TheVariants as Named'
 
 -- ---- where each stands
 
@@ -94,15 +92,15 @@ cells_of (Table k) = run (Part k) 0 11
 
 -- ---- how a request names one, by the numbers on the wire
 
-unfoldable pub when : Bool → Cell → Named
-when t d = cond t (Named'.Cell d) Named'.Nothing
+unfoldable pub when : Bool → Cell → Option Cell
+when t d = cond t (Some d) None
 
 -- channels of the constants are 0..7
-unfoldable pub constants_named : ℕ → Named
+unfoldable pub constants_named : ℕ → Option Cell
 constants_named n = when (ltb n 8) (Constants n)
 
 -- error tables are numbered 1..8
-unfoldable pub errors_named : ℕ → Named
+unfoldable pub errors_named : ℕ → Option Cell
 errors_named n = when (within 1 8 n) (Errors (n - 1))
 
 -- main tables 1..8 come first in the image, then the additional ones, 11..18; there is no 9 and no 10
@@ -112,11 +110,15 @@ is_table t = within 1 8 t || within 11 18 t
 unfoldable pub table_index : ℕ → ℕ
 table_index t = cond (ltb t 9) (t - 1) (t - 3)
 
-unfoldable pub table_named : ℕ → Named
+-- where the table stands that a number names
+unfoldable pub index_named : ℕ → Option ℕ
+index_named t = cond (is_table t) (Some (table_index t)) None
+
+unfoldable pub table_named : ℕ → Option Cell
 table_named t = when (is_table t) (Table (table_index t))
 
 -- parts are numbered 1..11
-unfoldable pub part_named : ℕ → ℕ → Named
+unfoldable pub part_named : ℕ → ℕ → Option Cell
 part_named t p = when (is_table t && within 1 11 p) (Part (table_index t) (p - 1))
 
 -- ---- what is said of the whole list

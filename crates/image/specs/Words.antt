@@ -1,12 +1,10 @@
 -- Where words stand in an image: those of the tables (document 01, "The image") and the signatures that version 2 keeps (document 02, request 7).
 -- Assumes nothing.
-use Rattle.std.specs.Prelude.{List, [], ◌∷◌, Bool, ◌&&◌, ◌||◌, ℕ, ◌+◌, ◌*◌, leb}
+use Rattle.std.specs.Prelude.{List, [], ◌∷◌, Bool, ◌&&◌, ◌||◌, ℕ, ◌+◌, ◌*◌, leb, Option, Some, None}
 use Rattle.laws.specs.Bytes.{word_at}
 use Rattle.laws.specs.Checks.{all}
 use Rattle.image.specs.declared.cell.Cell.{Cell}
 use Rattle.image.specs.declared.cell.Cell.TheVariants.{Mask, Mode, Clock, Constants, Errors, Part, Table}
-use Rattle.image.specs.declared.cell.Signed.{Signed}
-use Rattle.image.specs.declared.cell.Signed.TheVariants.{Nowhere, At}
 use Rattle.image.specs.declared.version.Version.{Version}
 use Rattle.image.specs.declared.version.Version.TheVariants.{V1, V2}
 use Rattle.image.specs.Version.{image_length}
@@ -26,14 +24,14 @@ abbrev pub kept_offset : ℕ → ℕ
 kept_offset i = 23753 + 2 * i
 
 -- the signature that a cell's bytes count in: tables come in image order, then constants, then error tables; a part counts in its table's
-abbrev pub signature_word : Cell → Signed
-signature_word Mask = Nowhere
-signature_word Mode = Nowhere
-signature_word Clock = Nowhere
-signature_word (Constants c) = At (kept_offset (16 + c))
-signature_word (Errors e) = At (kept_offset (24 + e))
-signature_word (Part k p) = At (kept_offset k)
-signature_word (Table k) = At (kept_offset k)
+abbrev pub signature_word : Cell → Option ℕ
+signature_word Mask = None
+signature_word Mode = None
+signature_word Clock = None
+signature_word (Constants c) = Some (kept_offset (16 + c))
+signature_word (Errors e) = Some (kept_offset (24 + e))
+signature_word (Part k p) = Some (kept_offset k)
+signature_word (Table k) = Some (kept_offset k)
 
 -- all words of a version; none of them lies in a cell. Those of the sixteen tables, two bytes each, and in version 2 those of the 32 signatures
 abbrev pub words : Version → List Span

@@ -1,10 +1,11 @@
 // The cells of the image: where each stands, how long it is, and how a request's numbers name one.
-ghost use Rattle.std.specs.Prelude.{◌≡◌, cond, ◌+◌, ◌*◌, ◌≤◌};
-ghost use Rattle.image.specs.Cell.{offset, size, constants_named, errors_named, is_table, table_index, table_named, part_named, item_at};
+ghost use Rattle.std.specs.Prelude.{◌≡◌, ◌+◌, ◌*◌, ◌≤◌};
+ghost use Rattle.image.specs.Cell.{offset, size, constants_named, errors_named, index_named, table_named, part_named, item_at};
 ghost use Rattle.image.specs.Words.{signature_word};
 
 // What a command works on: one of the 195 cells, or all eleven parts of a table at once, of which its signature and a volume speak. Inside, numbers
-// count from 0: channels 0..7, error tables 0..7, tables 0..15 in image order, parts 0..10.
+// count from 0: channels 0..7, error tables 0..7, tables 0..15 in image order, parts 0..10. No type bounds them: the definitions and the list of the 195
+// cells are written with them, and each literal there would carry a proof; so a contract says where it needs a cell, or an item.
 #[derive(Clone, Copy)]
 pub enum Cell {
     Mask,
@@ -14,20 +15,6 @@ pub enum Cell {
     Errors(u8),
     Part(u8, u8),
     Table(u8),
-}
-
-// What a request's numbers name.
-#[derive(Clone, Copy)]
-pub enum Named {
-    Nothing,
-    Cell(Cell),
-}
-
-// Where the signature is kept that a cell's bytes count in.
-#[derive(Clone, Copy)]
-pub enum Signed {
-    Nowhere,
-    At(usize),
 }
 
 impl Cell {
@@ -86,47 +73,36 @@ impl Cell {
         Cell::Clock
     }
 
-    pub fn constants(channel: u8) -> Named
+    // What a request's numbers name, if anything: here a channel, then an error table, a table, a part.
+    pub fn constants(channel: u8) -> Option<Cell>
         ensures { result ≡ constants_named channel }
     {
-        if channel < 8 {
-            Named::Cell(Cell::Constants(channel))
-        } else {
-            Named::Nothing
-        }
+        (channel < 8).then_some(Cell::Constants(channel))
     }
 
     // Error tables are numbered from 1 on the wire.
-    pub fn errors(number: u8) -> Named
+    pub fn errors(number: u8) -> Option<Cell>
         ensures { result ≡ errors_named number }
     {
         match number {
-            1..=8 => Named::Cell(Cell::Errors(number - 1)),
-            _ => Named::Nothing,
+            1..=8 => Some(Cell::Errors(number - 1)),
+            _ => None,
         }
     }
 
-    pub fn table(number: u8) -> Named
+    pub fn table(number: u8) -> Option<Cell>
         ensures { result ≡ table_named number }
     {
-        let k = table_index(number as u32);
-        if k < 16 {
-            Named::Cell(Cell::Table(k))
-        } else {
-            Named::Nothing
-        }
+        table_index(u32::from(number)).map(|k| Cell::Table(k))
     }
 
-    pub fn part(number: u8, part: u8) -> Named
+    pub fn part(number: u8, part: u8) -> Option<Cell>
         ensures { result ≡ part_named number part }
     {
-        let k = table_index(number as u32);
-        if 16 <= k {
-            return Named::Nothing;
-        }
+        let k = table_index(u32::from(number))?;
         match part {
-            1..=11 => Named::Cell(Cell::Part(k, part - 1)),
-            _ => Named::Nothing,
+            1..=11 => Some(Cell::Part(k, part - 1)),
+            _ => None,
         }
     }
 
@@ -134,13 +110,10 @@ impl Cell {
     pub fn item(i: u8) -> Cell
         ensures { result ≡ item_at i }
     {
-        if i < 16 {
-            return Cell::Table(i);
-        }
-        if i < 24 {
-            Cell::Constants(i - 16)
-        } else {
-            Cell::Errors(i - 24)
+        match i {
+            0..=15 => Cell::Table(i),
+            16..=23 => Cell::Constants(i - 16),
+            _ => Cell::Errors(i - 24),
         }
     }
 
@@ -151,12 +124,12 @@ impl Cell {
             Cell::Mask => Cell::MASK_OFFSET,
             Cell::Mode => Cell::MODE_OFFSET,
             Cell::Clock => Cell::CLOCK_OFFSET,
-            Cell::Constants(c) => Cell::CONSTANTS_OFFSET + Cell::CONSTANTS_SIZE * (c as usize),
-            Cell::Errors(e) => Cell::ERRORS_OFFSET + Cell::ERRORS_SIZE * (e as usize),
+            Cell::Constants(c) => Cell::CONSTANTS_OFFSET + Cell::CONSTANTS_SIZE * usize::from(c),
+            Cell::Errors(e) => Cell::ERRORS_OFFSET + Cell::ERRORS_SIZE * usize::from(e),
             Cell::Part(k, p) => Cell::TABLES_OFFSET
-                + Cell::TABLE_SIZE * (k as usize)
-                + Cell::PART_SIZE * (p as usize),
-            Cell::Table(k) => Cell::TABLES_OFFSET + Cell::TABLE_SIZE * (k as usize),
+                + Cell::TABLE_SIZE * usize::from(k)
+                + Cell::PART_SIZE * usize::from(p),
+            Cell::Table(k) => Cell::TABLES_OFFSET + Cell::TABLE_SIZE * usize::from(k),
         }
     }
 
@@ -164,8 +137,7 @@ impl Cell {
         ensures { result ≡ size self }
     {
         match self {
-            Cell::Mask => Cell::BYTE_SIZE,
-            Cell::Mode => Cell::BYTE_SIZE,
+            Cell::Mask | Cell::Mode => Cell::BYTE_SIZE,
             Cell::Clock => Cell::CLOCK_SIZE,
             Cell::Constants(_) => Cell::CONSTANTS_SIZE,
             Cell::Errors(_) => Cell::ERRORS_SIZE,
@@ -174,37 +146,36 @@ impl Cell {
         }
     }
 
-    // A part counts in its table's.
-    pub fn signature_word(self) -> Signed
+    // Where the signature is kept that its bytes count in. A part counts in its table's.
+    pub fn signature_word(self) -> Option<usize>
         ensures { result ≡ signature_word self }
     {
         match self {
-            Cell::Mask => Signed::Nowhere,
-            Cell::Mode => Signed::Nowhere,
-            Cell::Clock => Signed::Nowhere,
-            Cell::Constants(c) => kept_at(Cell::CONSTANTS_SIGNATURES_OFFSET, c),
-            Cell::Errors(e) => kept_at(Cell::ERRORS_SIGNATURES_OFFSET, e),
-            Cell::Part(k, _) => kept_at(Cell::TABLE_SIGNATURES_OFFSET, k),
-            Cell::Table(k) => kept_at(Cell::TABLE_SIGNATURES_OFFSET, k),
+            Cell::Mask | Cell::Mode | Cell::Clock => None,
+            Cell::Constants(c) => Some(kept_at(Cell::CONSTANTS_SIGNATURES_OFFSET, c)),
+            Cell::Errors(e) => Some(kept_at(Cell::ERRORS_SIGNATURES_OFFSET, e)),
+            Cell::Part(k, _) => Some(kept_at(Cell::TABLE_SIGNATURES_OFFSET, k)),
+            Cell::Table(k) => Some(kept_at(Cell::TABLE_SIGNATURES_OFFSET, k)),
         }
     }
 }
 
 // The k-th word of those that begin at an offset.
-fn kept_at(first: usize, k: u8) -> Signed
+fn kept_at(first: usize, k: u8) -> usize
     requires { first ≤ 65536 }
-    ensures { result ≡ Signed.At (first + 2 * k) }
+    ensures { result ≡ first + 2 * k }
 {
-    Signed::At(first + Cell::WORD_SIZE * (k as usize))
+    first + Cell::WORD_SIZE * usize::from(k)
 }
 
-// Where a table stands among the sixteen, from 0; 16 for a number that no table has, however large.
-pub fn table_index(number: u32) -> u8
-    ensures { result ≡ cond (is_table number) (table_index number) 16 }
+// Where a table stands among the sixteen, from 0. No table has another number, however large. `as` narrows what the arms bound: the failure of a TryFrom
+// could not come.
+pub fn table_index(number: u32) -> Option<u8>
+    ensures { result ≡ index_named number }
 {
     match number {
-        1..=8 => (number - 1) as u8,
-        11..=18 => (number - 3) as u8,
-        _ => 16,
+        1..=8 => Some((number - 1) as u8),
+        11..=18 => Some((number - 3) as u8),
+        _ => None,
     }
 }

@@ -1,38 +1,26 @@
 // Making a lent buffer a fresh image.
-ghost use Rattle.std.specs.Prelude.{◌≡◌, length};
-ghost use Rattle.laws.specs.Bytes.{zeros};
+ghost use Rattle.output.specs.Refusal.{number_in};
 ghost use Rattle.image.specs.Version.{current};
 ghost use Rattle.image.specs.Made.{Makes};
 ghost use Rattle.image.specs.Fresh.{freshened};
 
-use crate::version::{ADDRESS_OFFSET, IMAGE_LENGTH, Version};
+use crate::version::{ADDRESS_OFFSET, IMAGE_LENGTH, NUMBER_OFFSET, Version};
+use crate::word::put_word;
+use output::Refusal;
 
-fn clear(m: &mut [u8])
-    ensures { m.new ≡ zeros (length m.old) }
-{
-    let mut i = 0;
-    while i < m.len() {
-        m[i] = 0;
-        i += 1;
-    }
-}
-
-// Its refusals are 1 and 11, in this order.
-pub fn freshen(m: &mut [u8], address: u8) -> u8
-    ensures { Makes (freshened current m.old address) result m.new }
+// Refused in this order.
+pub fn freshen(m: &mut [u8], address: u8) -> Result<(), Refusal>
+    ensures { Makes (freshened current m.old address) (number_in result) m.new }
 {
     if m.len() != IMAGE_LENGTH {
-        return 1;
+        return Err(Refusal::Image);
     }
     if address == 0 {
-        return 11;
+        return Err(Refusal::Value);
     }
-    clear(m);
-    m[0] = 73;
-    m[1] = 90;
-    m[2] = 75;
-    m[3] = 0;
-    m[4] = Version::CURRENT.number();
+    m.fill(0);
+    m[..NUMBER_OFFSET].copy_from_slice(b"IZK");
+    put_word(m, NUMBER_OFFSET, u16::from(Version::CURRENT.number()));
     m[ADDRESS_OFFSET] = address;
-    0
+    Ok(())
 }

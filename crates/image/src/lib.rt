@@ -4,13 +4,15 @@
 mod cell;
 mod fresh;
 mod held;
+mod parts;
 mod usable;
 mod version;
 mod word;
 
-pub use cell::{Cell, Named, Signed, table_index};
+pub use cell::{Cell, table_index};
 pub use fresh::freshen;
-pub use held::{Held, held_parts};
+pub use held::held_parts;
+pub use parts::Held;
 pub use usable::is_usable;
-pub use version::{ADDRESS_OFFSET, IMAGE_LENGTH, Version};
+pub use version::{ADDRESS_OFFSET, IMAGE_LENGTH, NUMBER_OFFSET, Version};
 pub use word::{has_bit, put_word, set_bit, word_at};

@@ -1,5 +1,6 @@
 // When an image is usable. A byte that no rule names is not judged. A test goes through all its bytes, also once one has failed, so that the
-// compiler can take several at a time.
+// compiler can take several at a time: `all` of an iterator would end early. Each asks for the bytes that it reads, of an image of either version,
+// and goes by places: the eight counts stand 64 bytes apart, and a word is read by its place as everywhere.
 ghost use Rattle.std.specs.Prelude.{◌≡◌, ◌≤◌, length};
 ghost use Rattle.laws.specs.Checks.{every};
 ghost use Rattle.image.specs.Usable.{mark_ok, count_ok, word_ok, usable};
@@ -8,12 +9,14 @@ use crate::cell::Cell;
 use crate::version::{ADDRESS_OFFSET, Version};
 use crate::word::word_at;
 
-// The letters IZK, and the version. Bracketed as the definition is, so that the two compute alike.
+// The letters IZK, and the version. Byte by byte: `m[..5] == [..]` was tried and took three times as long, since it calls the library's scan at each frame,
+// and a pattern twice. Bracketed as the definition is, so that the two compute alike.
 fn mark_ok(m: &[u8], version: Version) -> bool
     requires { 5 ≤ length m.now }
     ensures { result ≡ mark_ok version m.now }
 {
-    (m[0] == 73) & ((m[1] == 90) & ((m[2] == 75) & ((m[3] == 0) & (m[4] == version.number()))))
+    (m[0] == b'I')
+        & ((m[1] == b'Z') & ((m[2] == b'K') & ((m[3] == 0) & (m[4] == version.number()))))
 }
 
 fn counts_ok(m: &[u8]) -> bool
@@ -42,17 +45,9 @@ fn words_ok(m: &[u8]) -> bool
 pub fn is_usable(m: &[u8], version: Version) -> bool
     ensures { result ≡ usable version m.now }
 {
-    if m.len() != version.length() {
-        return false;
-    }
-    if !mark_ok(m, version) {
-        return false;
-    }
-    if m[ADDRESS_OFFSET] == 0 {
-        return false;
-    }
-    if !counts_ok(m) {
-        return false;
-    }
-    words_ok(m)
+    m.len() == version.length()
+        && mark_ok(m, version)
+        && m[ADDRESS_OFFSET] != 0
+        && counts_ok(m)
+        && words_ok(m)
 }

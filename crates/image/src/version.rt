@@ -1,4 +1,4 @@
-// The versions of an image, which of them the block serves, and where the address stands in an image of any.
+// The versions of an image, which of them the block serves, and where the version's number and the address stand in an image of any.
 ghost use Rattle.std.specs.Prelude.{◌≡◌};
 ghost use Rattle.image.specs.Version.{version_number, image_length};
 
@@ -18,7 +18,7 @@ impl Version {
     // the one that the block serves
     pub const CURRENT: Version = Version::V2;
 
-    // As it stands in the image.
+    // As it stands in the image. A method and no `From`: a version has its length too, and which of the two a conversion gives would not be said.
     pub fn number(self) -> u8
         ensures { result ≡ version_number self }
     {
@@ -40,5 +40,7 @@ impl Version {
 
 // Of an image that the block serves.
 pub const IMAGE_LENGTH: usize = Version::LENGTH_2;
+
+pub const NUMBER_OFFSET: usize = 3;
 
 pub const ADDRESS_OFFSET: usize = 5;

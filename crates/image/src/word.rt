@@ -3,28 +3,19 @@ ghost use Rattle.std.specs.Prelude.{◌≡◌, ◌+◌, ◌/◌, ◌%◌, ◌<�
 ghost use Rattle.laws.specs.Bytes.{lay, two, word_at};
 ghost use Rattle.laws.specs.Bits.{bit, with_bit};
 
-fn wide(b: u8) -> u16
-    ensures { (result ≡ b) × (result < 256) }
-{
-    b as u16
-}
-
 // High byte first.
 pub fn word_at(m: &[u8], start: usize) -> u16
     requires { start + 2 ≤ length m.now }
     ensures { result ≡ word_at m.now start }
 {
-    let high = wide(m[start]);
-    let low = wide(m[start + 1]);
-    256 * high + low
+    u16::from_be_bytes([m[start], m[start + 1]])
 }
 
 pub fn put_word(m: &mut [u8], start: usize, w: u16)
     requires { start + 2 ≤ length m.old }
     ensures { m.new ≡ lay m.old start (two w) }
 {
-    m[start] = (w / 256) as u8;
-    m[start + 1] = (w % 256) as u8;
+    m[start..start + 2].copy_from_slice(&w.to_be_bytes());
 }
 
 // Bits count from 0: part p of a table has bit p - 1.

@@ -7,7 +7,7 @@ use Prim.Native.Nat.{ℕ, ◌+◌}
 use lib.ListN.{take}
 use Rattle.laws.specs.Checks.{all}
 use Rattle.laws.proofs.Bytes.{Bytes, bytes_none, bytes_append, bytes_take, bytes_slice, bytes_two}
-use Rattle.output.specs.declared.answer.Answer.{Answer}
+use Rattle.output.specs.Output.{Answer}
 use Rattle.frame.specs.Capitals.{capital_form, no_small}
 use Rattle.frame.specs.Apart.{contents_of, frame_checks}
 use Rattle.frame.proofs.Capitals.{capital_contents, capital_checks}
@@ -22,8 +22,7 @@ use Rattle.storing.proofs.Signatures.{signature_word_lem}
 use Rattle.rules.specs.declared.rule.Act.{Act}
 use Rattle.rules.specs.declared.rule.Act.TheVariants.{Show, Sign, Store}
 use Rattle.rules.specs.declared.switch.Switch.{Switch}
-use Rattle.rules.specs.declared.verdict.Verdict.{Verdict}
-use Rattle.rules.specs.declared.verdict.Verdict.TheVariants.{Refused, Accepted}
+use Rattle.rules.specs.Order.{Verdict, Refused, Accepted}
 use Rattle.rules.proofs.Following.{accepted_passes}
 use Rattle.command.specs.Act.{says}
 use Rattle.command.specs.Reply.{done, reply_in, Serves}

@@ -25,8 +25,7 @@ use Rattle.storing.proofs.Touches.{Own, touches_low, no_touch_in_cell}
 use Rattle.storing.proofs.Stores.{stored-length, byte_stays, bit_stays, own_bit, cell_filled}
 use Rattle.rules.specs.declared.rule.Act.{Act}
 use Rattle.rules.specs.declared.rule.Act.TheVariants.{Show, Sign, Store}
-use Rattle.rules.specs.declared.verdict.Verdict.{Verdict}
-use Rattle.rules.specs.declared.verdict.Verdict.TheVariants.{Refused, Accepted}
+use Rattle.rules.specs.Order.{Verdict, Refused, Accepted}
 use Rattle.rules.specs.Fits.{FitAccepted}
 use Rattle.command.specs.Act.{leaves}
 use Rattle.command.specs.Reply.{done}

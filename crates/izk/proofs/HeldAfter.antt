@@ -23,7 +23,7 @@ use Rattle.storing.specs.Stored.{stored, FitStore}
 use Rattle.storing.proofs.Touches.{WordAfter}
 use Rattle.storing.proofs.Stores.{word_stored, own_bit}
 use Rattle.rules.specs.declared.rule.Act.TheVariants.{Store}
-use Rattle.rules.specs.declared.verdict.Verdict.TheVariants.{Accepted}
+use Rattle.rules.specs.Order.{Accepted}
 use Rattle.izk.specs.Heard.{Hearing, Lawful}
 use Rattle.izk.specs.Block.{served}
 use Rattle.izk.proofs.Serving.{served_is, usable_stays}

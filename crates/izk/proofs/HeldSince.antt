@@ -27,7 +27,7 @@ use Rattle.storing.proofs.Stores.{bit_stays, own_bit}
 use Rattle.rules.specs.declared.rule.Act.{Act}
 use Rattle.rules.specs.declared.rule.Act.TheVariants.{Show, Sign, Store}
 use Rattle.rules.specs.declared.switch.Switch.{Switch}
-use Rattle.rules.specs.declared.verdict.Verdict.TheVariants.{Accepted}
+use Rattle.rules.specs.Order.{Accepted}
 use Rattle.rules.specs.Rules.{byte}
 use Rattle.rules.proofs.Parts.{part_by_59, stores_59}
 use Rattle.command.specs.Act.{leaves}

@@ -1,5 +1,6 @@
 -- What a frame shows is what the image has; so what is written reads back identically: any cell, and each of document 01's five pairs of a write and a
 -- read, 51 and 50, 53 and 54, 59 and 60, 62 and 63, 77 and 78. Assumes nothing.
+use Rattle.std.specs.Prelude.{Some}
 use mathlib.Core.Path.{◌≡◌, refl, ap, ◌∙◌}
 use mathlib.Core.List.{List, ◌++◌}
 use mathlib.Core.Bool.{true}
@@ -13,7 +14,6 @@ use Rattle.frame.specs.Apart.{contents_of}
 use Rattle.frame.specs.Built.{frame_of}
 use Rattle.image.specs.declared.cell.Cell.{Cell}
 use Rattle.image.specs.declared.cell.Cell.TheVariants as Cells
-use Rattle.image.specs.declared.cell.Named.TheVariants as Named'
 use Rattle.image.specs.declared.version.Version.{Version}
 use Rattle.image.specs.Cell.{offset, extent, when, errors_named}
 use Rattle.image.specs.Usable.{usable, address}
@@ -21,11 +21,10 @@ use Rattle.image.proofs.UsableFacts.{facts}
 use Rattle.storing.proofs.Stores.{shown_back}
 use Rattle.rules.specs.declared.rule.Act.{Act}
 use Rattle.rules.specs.declared.rule.Act.TheVariants.{Show, Store}
-use Rattle.rules.specs.declared.rule.Found.TheVariants as F
 use Rattle.rules.specs.declared.rule.Names.TheVariants as N
 use Rattle.rules.specs.declared.rule.Rule.{Rule}
 use Rattle.rules.specs.declared.switch.Switch.{Switch}
-use Rattle.rules.specs.declared.verdict.Verdict.TheVariants.{Accepted}
+use Rattle.rules.specs.Order.{Accepted}
 use Rattle.rules.specs.Rules.{byte, rows_named, named_by, commands, rule_of}
 use Rattle.rules.proofs.Naming.{when_cell}
 use Rattle.command.specs.Act.{says}
@@ -69,7 +68,7 @@ error_table_shown k v g m out n is-63 is-n z =
     let s : r.names ≡ N.ErrorTable = cc in
     let e : x.echo ≡ 1 = cc in
     let a : x.act ≡ Show = cc in
-    let named : errors_named n ≡ Named'.Cell x.cell = rw (s, is-n) at b.names in
+    let named : errors_named n ≡ Some x.cell = rw (s, is-n) at b.names in
     let cell = (when_cell (within 1 8 n) (Cells.Errors (n - 1)) x.cell named).1 in
     let shows : heard k (address m) g ≡ Accepted 1 Show x.cell = rw (e, a) at x.verdict in
     rw (← cell) at (shows_as_stored (heard k) (heard_lawful k) v g m 1 x.cell shows u out room)
@@ -97,26 +96,26 @@ SameBytes n c c' = (i : ℕ) → i < n → byte c (3 + i) ≡ byte c' (3 + i)
 
 -- what a body of rule x names, a body of rule y with the bytes that y echoes names too
 abbrev pub NamesAlike : Rule → Rule → Type 0
-NamesAlike x y = (c c' : List ℕ) (d : Cell) → SameBytes y.echo c c' → named_by x.names c ≡ Named'.Cell d → named_by y.names c' ≡ Named'.Cell d
+NamesAlike x y = (c c' : List ℕ) (d : Cell) → SameBytes y.echo c c' → named_by x.names c ≡ Some d → named_by y.names c' ≡ Some d
 
 -- command w stores what its body has from an index on, and command r shows the cell that w names by the same bytes
 pub record Pair (w r : ℕ) : Type 0 where
   pub from : ℕ
   pub writing : Rule
   pub reading : Rule
-  pub written : rule_of w commands ≡ F.Rule writing
-  pub read : rule_of r commands ≡ F.Rule reading
+  pub written : rule_of w commands ≡ Some writing
+  pub read : rule_of r commands ≡ Some reading
   pub stores : writing.act ≡ Store from
   pub shows : reading.act ≡ Show
   pub same : NamesAlike writing reading
 
-rows_same : (c : List ℕ) (d : Cell) → rows_named c ≡ Named'.Cell d → errors_named (byte c 3) ≡ Named'.Cell d
+rows_same : (c : List ℕ) (d : Cell) → rows_named c ≡ Some d → errors_named (byte c 3) ≡ Some d
 unfolding rows_named errors_named when
 rows_same c d h =
     let p = when_cell _ _ _ h in
-    rw (and_both (within 1 8 (byte c 3)) _ p.0).0 (ap Named'.Cell p.1)
+    rw (and_both (within 1 8 (byte c 3)) _ p.0).0 (ap Some p.1)
 
-pair_of : {w r : ℕ} {x y : Rule} (k : ℕ) → rule_of w commands ≡ F.Rule x → rule_of r commands ≡ F.Rule y → x.act ≡ Store k → y.act ≡ Show → NamesAlike x y
+pair_of : {w r : ℕ} {x y : Rule} (k : ℕ) → rule_of w commands ≡ Some x → rule_of r commands ≡ Some y → x.act ≡ Store k → y.act ≡ Show → NamesAlike x y
     → Pair w r
 pair_of {x} {y} k i j s t n = record { from = k; writing = x; reading = y; written = i; read = j; stores = s; shows = t; same = n }
 

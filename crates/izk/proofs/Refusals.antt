@@ -15,17 +15,15 @@ use Rattle.laws.proofs.Checks.{judged-map, gives_first, judged_gives, judged_ref
 use Rattle.output.specs.Output.{OutputAfter, refuse, written}
 use Rattle.frame.specs.Apart.{contents_of, frame_checks, apart_checks, apart}
 use Rattle.frame.specs.Built.{frame_of, build_checks, built}
-use Rattle.image.specs.declared.held.Held.{Held}
 use Rattle.image.specs.declared.version.Version.{Version}
 use Rattle.image.specs.Version.{current}
 use Rattle.image.specs.Usable.{usable, address}
 use Rattle.image.specs.Made.{ImageAfter, unmade}
 use Rattle.image.specs.Fresh.{fresh_checks, freshened}
-use Rattle.image.specs.Held.{unheld, held_of, held_checks, held_parts}
+use Rattle.image.specs.Held.{unheld, held_of, held_checks, held_parts, HeldAnswer}
 use Rattle.rules.specs.declared.switch.Switch.{Switch}
 use Rattle.rules.specs.declared.switch.Switch.TheVariants.{Unsealed, Sealed}
-use Rattle.rules.specs.declared.verdict.Verdict.{Verdict}
-use Rattle.rules.specs.declared.verdict.Verdict.TheVariants.{Refused, Accepted}
+use Rattle.rules.specs.Order.{Verdict, Refused, Accepted}
 use Rattle.rules.specs.Rules.{byte}
 use Rattle.rules.specs.Seal.{lets, is_write}
 use Rattle.rules.specs.Verdict.{recognised, verdict_number}
@@ -71,7 +69,7 @@ fresh_gives v m a = judged_gives (λ (x : ImageAfter). x.number) (unmade m) (fre
 
 pub held_gives : (v : Version) (m : List ℕ) (t : ℕ) → Gives (held_checks v m t) (held_parts v m t).number
 unfolding held_parts held_of
-held_gives v m t = judged_gives (λ (h : Held). h.number) unheld (held_checks v m t) _ (λ n. refl) (λ p. refl)
+held_gives v m t = judged_gives (λ (h : HeldAnswer). h.number) unheld (held_checks v m t) _ (λ n. refl) (λ p. refl)
 
 -- the numbers of each list, in its order
 pub lists_numbered : (s : Switch) (v : Version) (f m out c : List ℕ) (a t : ℕ)
@@ -227,4 +225,4 @@ refused_fresh v m a =
 pub refused_held : (v : Version) (m : List ℕ) (t : ℕ) → (held_parts v m t).number ≢ 0 → ((held_parts v m t).parts ≡ 0) × ((held_parts v m t).missing ≡ 0)
 unfolding held_parts held_of
 refused_held v m t =
-    judged_refused (λ (h : Held). h.number) unheld (held_checks v m t) _ (λ h. (h.parts ≡ 0) × (h.missing ≡ 0)) (λ n. (refl, refl)) (λ z. absurd (z refl))
+    judged_refused (λ (h : HeldAnswer). h.number) unheld (held_checks v m t) _ (λ h. (h.parts ≡ 0) × (h.missing ≡ 0)) (λ n. (refl, refl)) (λ z. absurd (z refl))

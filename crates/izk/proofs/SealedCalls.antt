@@ -3,7 +3,7 @@ use mathlib.Core.Path.{◌≡◌, refl, ap, ◌∙◌}
 use mathlib.Core.Logic.{◌≢◌}
 use mathlib.Core.List.{List, [], ◌∷◌, Memᴰ}
 use Prim.Native.Nat.{ℕ}
-use Rattle.output.specs.declared.answer.Answer.{Answer}
+use Rattle.output.specs.Output.{Answer}
 use Rattle.image.specs.declared.version.Version.{Version}
 use Rattle.image.specs.Version.{current}
 use Rattle.rules.specs.declared.switch.Switch.{Switch}

@@ -21,8 +21,7 @@ use Rattle.image.proofs.UsableFacts.{Usable, facts, usable_of}
 use Rattle.storing.proofs.Stores.{head_stays, store_usable}
 use Rattle.rules.specs.declared.rule.Act.{Act}
 use Rattle.rules.specs.declared.rule.Act.TheVariants.{Show, Sign, Store}
-use Rattle.rules.specs.declared.verdict.Verdict.{Verdict}
-use Rattle.rules.specs.declared.verdict.Verdict.TheVariants.{Refused, Accepted}
+use Rattle.rules.specs.Order.{Verdict, Refused, Accepted}
 use Rattle.rules.specs.Fits.{Fit, IsRefusal, FitVerdict, Numbered}
 use Rattle.command.specs.Act.{says, leaves}
 use Rattle.command.specs.Reply.{Outcome, refusal, done, sent, reply_in}

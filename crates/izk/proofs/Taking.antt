@@ -6,15 +6,14 @@ use Prim.Native.Nat.{ℕ, ◌≤◌}
 use lib.ListN.{length, take}
 use Rattle.laws.proofs.Bytes.{lay-none}
 use Rattle.laws.proofs.Checks.{judged_passed}
-use Rattle.output.specs.declared.answer.Answer.{Answer}
+use Rattle.output.specs.Output.{Answer}
 use Rattle.frame.specs.Apart.{contents_of, frame_checks}
 use Rattle.frame.specs.Read.{ReadInto}
 use Rattle.frame.proofs.Passing.{read_refuses, read_refused, read_passes}
 use Rattle.image.specs.Version.{current}
 use Rattle.image.specs.Usable.{usable, address}
 use Rattle.rules.specs.declared.switch.Switch.{Switch}
-use Rattle.rules.specs.declared.verdict.Verdict.{Verdict}
-use Rattle.rules.specs.declared.verdict.Verdict.TheVariants.{Refused}
+use Rattle.rules.specs.Order.{Verdict, Refused}
 use Rattle.rules.specs.Verdict.{recognised}
 use Rattle.command.specs.Reply.{refusal, done, sent, Serves}
 use Rattle.izk.specs.Heard.{heard, answered}

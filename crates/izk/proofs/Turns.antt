@@ -11,8 +11,7 @@ use Rattle.image.specs.declared.version.Version.{Version}
 use Rattle.image.specs.Usable.{usable, address}
 use Rattle.rules.specs.declared.rule.Act.{Act}
 use Rattle.rules.specs.declared.switch.Switch.{Switch}
-use Rattle.rules.specs.declared.verdict.Verdict.{Verdict}
-use Rattle.rules.specs.declared.verdict.Verdict.TheVariants.{Refused, Accepted}
+use Rattle.rules.specs.Order.{Verdict, Refused, Accepted}
 use Rattle.rules.specs.Fits.{Numbered}
 use Rattle.command.specs.Reply.{refusal, done, sent}
 use Rattle.izk.specs.Heard.{answered, Hearing, Lawful}

@@ -1,17 +1,15 @@
 -- What hears a frame, and what is answered: checks 3 to 11 of document 01 ("Refusal numbers"), with check 16 of document 02 (request 11) behind 8,
 -- then the act. Assumes nothing.
-use Rattle.std.specs.Prelude.{◌≡◌, List, ℕ}
+use Rattle.std.specs.Prelude.{◌≡◌, List, ℕ, Some}
 use Rattle.laws.specs.Checks.{judged}
 use Rattle.frame.specs.Apart.{contents_of, frame_checks}
 use Rattle.image.specs.declared.cell.Cell.{Cell}
 use Rattle.image.specs.declared.version.Version.{Version}
 use Rattle.image.specs.Usable.{address}
 use Rattle.rules.specs.declared.rule.Act.{Act}
-use Rattle.rules.specs.declared.rule.Found.TheVariants as Found'
 use Rattle.rules.specs.declared.rule.Rule.{Rule}
 use Rattle.rules.specs.declared.switch.Switch.{Switch}
-use Rattle.rules.specs.declared.verdict.Verdict.{Verdict}
-use Rattle.rules.specs.declared.verdict.Verdict.TheVariants.{Refused, Accepted}
+use Rattle.rules.specs.Order.{Verdict, Refused, Accepted}
 use Rattle.rules.specs.Rules.{byte, commands, rule_of}
 use Rattle.rules.specs.Verdict.{recognised}
 use Rattle.rules.specs.Before.{recognised_before}
@@ -35,9 +33,9 @@ pub record Lawful (ear : Hearing) : Type 0 where
   pub fits : (a : ℕ) (f : List ℕ) → FitVerdict (ear a f) (contents_of f)
   pub numbered : (a : ℕ) (f : List ℕ) → Numbered (ear a f)
   pub known : {e : ℕ} {t : Act} {d : Cell} (a : ℕ) (f : List ℕ) → ear a f ≡ Accepted e t d
-      → (r : Rule) × (rule_of (byte (contents_of f) 2) commands ≡ Found'.Rule r)
+      → (r : Rule) × (rule_of (byte (contents_of f) 2) commands ≡ Some r)
   pub follows : {e : ℕ} {t : Act} {d : Cell} (a : ℕ) (f : List ℕ) (r : Rule) → ear a f ≡ Accepted e t d
-      → rule_of (byte (contents_of f) 2) commands ≡ Found'.Rule r → Follows e t d r (contents_of f)
+      → rule_of (byte (contents_of f) 2) commands ≡ Some r → Follows e t d r (contents_of f)
 
 -- a frame, on a usable image
 unfoldable pub answered : Hearing → Version → List ℕ → List ℕ → Outcome

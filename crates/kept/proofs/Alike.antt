@@ -1,5 +1,6 @@
 -- On images that hold the same, with true words, a block of version 1 and one of version 2 answer each frame alike, number, length and whole output, and
 -- go on holding the same. Fresh images do, so from there on the two cannot be told apart on the line. Assumes nothing.
+use Rattle.std.specs.Prelude.{Option}
 use mathlib.Core.Path.{◌≡◌, refl, sym, ap, ap₂, ◌∙◌}
 use mathlib.Core.Logic.Dec
 use mathlib.Core.Logic.{◌≢◌, inl, inr}
@@ -19,7 +20,6 @@ use Rattle.frame.specs.Apart.{contents_of}
 use Rattle.frame.specs.Built.{frame_of}
 use Rattle.frame.proofs.FrameLaid.{length_frame}
 use Rattle.image.specs.declared.cell.Cell.{Cell}
-use Rattle.image.specs.declared.cell.Signed.{Signed}
 use Rattle.image.specs.declared.version.Version.{Version}
 use Rattle.image.specs.declared.version.Version.TheVariants.{V1, V2}
 use Rattle.image.specs.Version.{image_length}
@@ -41,8 +41,7 @@ use Rattle.storing.proofs.Elsewhere.{extent_fits}
 use Rattle.rules.specs.declared.rule.Act.{Act}
 use Rattle.rules.specs.declared.rule.Act.TheVariants.{Show, Sign, Store}
 use Rattle.rules.specs.declared.switch.Switch.{Switch}
-use Rattle.rules.specs.declared.verdict.Verdict.{Verdict}
-use Rattle.rules.specs.declared.verdict.Verdict.TheVariants.{Refused, Accepted}
+use Rattle.rules.specs.Order.{Verdict, Refused, Accepted}
 use Rattle.rules.specs.Fits.{Fit, FitVerdict}
 use Rattle.command.specs.Act.{says, leaves}
 use Rattle.command.specs.Reply.{refusal, done, BuffersAfter, sent}
@@ -91,7 +90,7 @@ module _ (m n : List ℕ) (long : image_length V1 ≤ length m) (long' : image_l
 amend_unseen : (o new : List ℕ) (d : Cell) (n : List ℕ) → Common (touched_all o new (amending (signature_word d) []) n) n
 amend_unseen o new d n i low high = touched-byte o new (amending (signature_word d) []) n i (off (counts_view d))
   where
-    off : {x : Signed} → Counts d x → ¬ Own (amending x []) i
+    off : {x : Option ℕ} → Counts d x → ¬ Own (amending x []) i
     off (nowhere a) w = w
     off (in_word j a) (inl w) = let z : ⊥ = omega arith in z
     off (in_word j a) (inr w) = w

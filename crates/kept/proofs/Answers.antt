@@ -1,5 +1,6 @@
 -- 55, 61 and 64 answer with the word that the image keeps, true or false: no byte of the item stands in what they reply. And no word is judged. Assumes
 -- nothing.
+use Rattle.std.specs.Prelude.{Some}
 use mathlib.Core.Path.{◌≡◌, refl, ap, ◌∙◌}
 use mathlib.Core.List.{List, ◌++◌}
 use mathlib.Core.Bool.{Bool, true, false}
@@ -11,17 +12,14 @@ use Rattle.laws.specs.Bytes.{two, word_at}
 use Rattle.frame.specs.Apart.{contents_of}
 use Rattle.frame.specs.Built.{frame_of}
 use Rattle.image.specs.declared.cell.Cell.{Cell}
-use Rattle.image.specs.declared.cell.Named.TheVariants as Named'
-use Rattle.image.specs.declared.cell.Signed.TheVariants.{At}
 use Rattle.image.specs.declared.version.Version.TheVariants.{V2}
 use Rattle.image.specs.Cell.{constants_named, errors_named, table_index, table_named}
 use Rattle.image.specs.Words.{kept_offset, signature_word}
 use Rattle.image.specs.Usable.{usable, address}
 use Rattle.image.proofs.UsableFacts.{usable_same}
 use Rattle.rules.specs.declared.rule.Act.TheVariants.{Sign}
-use Rattle.rules.specs.declared.rule.Found.TheVariants as F
 use Rattle.rules.specs.declared.rule.Rule.{Rule}
-use Rattle.rules.specs.declared.verdict.Verdict.TheVariants.{Accepted}
+use Rattle.rules.specs.Order.{Accepted}
 use Rattle.rules.specs.Rules.{byte, named_by, commands, rule_of}
 use Rattle.rules.proofs.Naming.{when_cell}
 use Rattle.izk.specs.Heard.{Hearing, Lawful}
@@ -38,10 +36,10 @@ AnswersWord k from = (ear : Hearing) → Lawful ear → (g m out : List ℕ) →
 -- a rule that signs what one byte names
 pub record Signs (k : ℕ) (from : ℕ → ℕ) : Type 0 where
   pub rule : Rule
-  pub found : rule_of k commands ≡ F.Rule rule
+  pub found : rule_of k commands ≡ Some rule
   pub echoes : rule.echo ≡ 1
   pub acts : rule.act ≡ Sign
-  pub word : (c : List ℕ) (d : Cell) → named_by rule.names c ≡ Named'.Cell d → signature_word d ≡ At (from (byte c 3))
+  pub word : (c : List ℕ) (d : Cell) → named_by rule.names c ≡ Some d → signature_word d ≡ Some (from (byte c 3))
 
 signs_answer : {k : ℕ} {from : ℕ → ℕ} → Signs k from → AnswersWord k from
 signs_answer {from} r ear ok g m out is z =
@@ -56,7 +54,7 @@ signs_answer {from} r ear ok g m out is z =
 signs_55 : Signs 55 (λ n. 23785 + 2 * n)
 unfolding rule_of commands constants_named
 signs_55 =
-    record { rule = _; found = refl; echoes = refl; acts = refl; word = λ c d h. let p = when_cell _ _ _ h in rw (← p.1) (ap At (omega arith)) }
+    record { rule = _; found = refl; echoes = refl; acts = refl; word = λ c d h. let p = when_cell _ _ _ h in rw (← p.1) (ap Some (omega arith)) }
 
 signs_61 : Signs 61 (λ t. 23753 + 2 * table_index t)
 unfolding rule_of commands table_named
@@ -66,7 +64,7 @@ signs_61 =
 signs_64 : Signs 64 (λ n. 23801 + 2 * (n - 1))
 unfolding rule_of commands errors_named
 signs_64 =
-    record { rule = _; found = refl; echoes = refl; acts = refl; word = λ c d h. let p = when_cell _ _ _ h in rw (← p.1) (ap At (omega arith)) }
+    record { rule = _; found = refl; echoes = refl; acts = refl; word = λ c d h. let p = when_cell _ _ _ h in rw (← p.1) (ap Some (omega arith)) }
 
 -- on every image on which they are done, whatever its words are
 pub answers-words : AnswersWord 55 (λ n. 23785 + 2 * n) × AnswersWord 61 (λ t. 23753 + 2 * table_index t) × AnswersWord 64 (λ n. 23801 + 2 * (n - 1))

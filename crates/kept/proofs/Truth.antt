@@ -1,5 +1,6 @@
 -- The kept words are true on every image that calls lead to from a fresh one; and on any image, whatever is served leaves a false one false by as much. A
 -- frame stores or leaves the image, and a store amends a word as it changes the sum. Assumes nothing.
+use Rattle.std.specs.Prelude.{Option}
 use mathlib.Core.Path.{◌≡◌, refl, sym, ap, ◌∙◌}
 use mathlib.Core.Logic.{◌⊎◌, inl, inr}
 use mathlib.Core.Bool.{Bool, true, false, not}
@@ -12,10 +13,9 @@ use Rattle.laws.specs.Bytes.{slice, sum_of, word_at}
 use Rattle.laws.specs.Checks.{judged}
 use Rattle.laws.proofs.Bytes.{Bytes}
 use Rattle.laws.proofs.Sums.{sum-none}
-use Rattle.output.specs.declared.answer.Answer.{Answer}
+use Rattle.output.specs.Output.{Answer}
 use Rattle.frame.specs.Apart.{contents_of}
 use Rattle.image.specs.declared.cell.Cell.{Cell}
-use Rattle.image.specs.declared.cell.Signed.{Signed}
 use Rattle.image.specs.declared.version.Version.{Version}
 use Rattle.image.specs.declared.version.Version.TheVariants.{V2}
 use Rattle.image.specs.Version.{current, image_length}
@@ -52,7 +52,7 @@ fresh_true a e item = word (counts_view e) ∙ sym (ap (λ (s : ℕ). s % 65536)
     none : sum_of (slice (offset e) (size e) (fresh V2 a)) ≡ 0
     none = sum-none (offset e) (size e) (fresh V2 a) (λ i l. rest_at V2 a i (omega (arith, item_low e item)))
 
-    word : {y : Signed} → Counts e y → word_kept y (fresh V2 a) ≡ 0
+    word : {y : Option ℕ} → Counts e y → word_kept y (fresh V2 a) ≡ 0
     word (nowhere b) = refl
     word (in_word i b) = rw (rest_at V2 a (kept_offset i) (omega arith), rest_at V2 a (kept_offset i + 1) (omega arith))
 

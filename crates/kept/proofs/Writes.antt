@@ -1,5 +1,6 @@
 -- What a write changes in an image that keeps its signatures: its cell, its bit and its item's word, and nothing else. 51, 76 and 77 change no word.
 -- Assumes nothing.
+use Rattle.std.specs.Prelude.{Some}
 use mathlib.Core.Path.{◌≡◌, refl}
 use mathlib.Core.List.{List, [], ◌∷◌, Memᴰ}
 use mathlib.Core.Bool.{Bool, true, false, cond}
@@ -12,7 +13,6 @@ use Rattle.laws.proofs.Tests.{never}
 use Rattle.frame.specs.Apart.{contents_of}
 use Rattle.image.specs.declared.cell.Cell.{Cell}
 use Rattle.image.specs.declared.cell.Cell.TheVariants.{Mask, Mode, Clock}
-use Rattle.image.specs.declared.cell.Named.TheVariants as Named'
 use Rattle.image.specs.declared.version.Version.{Version}
 use Rattle.image.specs.declared.version.Version.TheVariants.{V1, V2}
 use Rattle.image.specs.Cell.{offset, size, is_item, cells_of}
@@ -28,8 +28,7 @@ use Rattle.rules.specs.declared.rule.Act.TheVariants.{Show, Sign, Store}
 use Rattle.rules.specs.declared.rule.Names.{Names}
 use Rattle.rules.specs.declared.rule.Names.TheVariants as N
 use Rattle.rules.specs.declared.rule.Rule.{Rule}
-use Rattle.rules.specs.declared.verdict.Verdict.{Verdict}
-use Rattle.rules.specs.declared.verdict.Verdict.TheVariants.{Refused, Accepted}
+use Rattle.rules.specs.Order.{Verdict, Refused, Accepted}
 use Rattle.rules.specs.Rules.{byte, named_by, commands}
 use Rattle.rules.specs.Fits.{Fit}
 use Rattle.rules.proofs.Fit.{found_tested}
@@ -101,7 +100,7 @@ untouched V1 =
 untouched V2 =
     (record { before = omega arith; alone = refl }, record { before = omega arith; alone = refl }, record { before = omega arith; alone = refl })
 
-plain_cell : (v : Version) (n : Names) (c : List ℕ) (d : Cell) → plain n ≡ true → named_by n c ≡ Named'.Cell d → Plain v d
+plain_cell : (v : Version) (n : Names) (c : List ℕ) (d : Cell) → plain n ≡ true → named_by n c ≡ Some d → Plain v d
 unfolding plain
 plain_cell v N.Mask c d p h = let e : Mask ≡ d = cc in rw (← e) (untouched v).0
 plain_cell v N.Mode c d p h = let e : Mode ≡ d = cc in rw (← e) (untouched v).1

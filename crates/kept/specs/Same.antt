@@ -7,8 +7,7 @@ use Rattle.image.specs.Usable.{usable}
 use Rattle.storing.specs.Signature.{full_sum, signature, TrueWords}
 use Rattle.rules.specs.declared.rule.Act.TheVariants.{Show, Sign, Store}
 use Rattle.rules.specs.declared.switch.Switch.{Switch}
-use Rattle.rules.specs.declared.verdict.Verdict.{Verdict}
-use Rattle.rules.specs.declared.verdict.Verdict.TheVariants.{Refused, Accepted}
+use Rattle.rules.specs.Order.{Verdict, Refused, Accepted}
 use Rattle.command.specs.Reply.{BuffersAfter}
 use Rattle.izk.specs.Heard.{Hearing}
 use Rattle.izk.specs.Since.{Turn, in_turn}

@@ -7,8 +7,7 @@ use Prim.Native.Nat.{ℕ, ◌-◌}
 use lib.ListN.{length, replicate}
 use Rattle.reorder.specs.Reorder.{outcomes, final}
 use Rattle.listener.specs.declared.Listener.{Listener}
-use Rattle.listener.specs.declared.Listened.{Listened}
-use Rattle.listener.specs.Listening.{both, listened, idle}
+use Rattle.listener.specs.Listening.{Listened, both, listened, idle}
 use Rattle.listener.specs.Handing.{gathered, handed, takes, well_formed}
 use Rattle.listener.specs.Calls.{Took, no_call, a_call}
 use Rattle.listener.proofs.Handing.{found, found_held}
@@ -20,6 +19,7 @@ listen_one_outcome l byte k m r s p q =
     let e : both k r ≡ both m s = p ∙ sym q in
     (ap (λ (h : Listened). h.listener) e, ap (λ (h : Listened). h.there) e)
 
+-- and of a record that is handed over and handed back, as a caller's own copy is
 pub by_value_one_outcome : (l : Listener) (byte : ℕ) (r s : Listened) → r ≡ listened l byte → s ≡ listened l byte → r ≡ s
 by_value_one_outcome l byte r s p q = p ∙ sym q
 

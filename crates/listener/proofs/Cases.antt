@@ -6,22 +6,14 @@ use native.Mathlib.Omega.{arith}
 use lib.Dec.{leb, eqb}
 use borrow.Author.Tests.{leb-true, eqb-false, le-leb, lt-leb, eq-eqb, ne_eqb}
 use Rattle.laws.specs.Checks.{within}
-use Rattle.laws.proofs.Tests.{and_both, within_in, within_above}
-use Rattle.listener.specs.declared.step.Step.{Step}
-use Rattle.listener.specs.Listening.{starts, passes, drops, gathers, ends_frame, step_of, before_at}
+use Rattle.laws.proofs.Tests.{and_both, within_in}
+use Rattle.listener.specs.Listening.{Step, starts, passes, drops, gathers, ends_frame, step_of, before_at}
 
 module _ (before count : ℕ) (g : Bool) (byte : ℕ) where
-  pub is_colon : byte ≡ 58 → step_of before count g byte ≡ starts
-  unfolding step_of
-  is_colon e = rw (eq-eqb byte 58 e)
-
   -- the flag is off, or no room has so many
   pub not_gathering : ¬ (byte ≡ 58) → (g && leb count 269) ≡ false → step_of before count g byte ≡ passes count g
   unfolding step_of
   not_gathering n e = rw (ne_eqb byte 58 n, e)
-
-  pub flag_off : ¬ (byte ≡ 58) → g ≡ false → step_of before count g byte ≡ passes count g
-  flag_off n e = not_gathering n (rw e)
 
   pub over_full : ¬ (byte ≡ 58) → 269 < count → step_of before count g byte ≡ passes count g
   over_full n h = not_gathering n (rw (lt-leb count 269 h, and-false))
@@ -50,10 +42,6 @@ module _ (before count byte : ℕ) where
   by_line_feed h e = rw (le-leb 1 count h, eq-eqb before 13 e)
 
 -- ---- where the byte before stands
-
-pub before_over : (count : ℕ) → 269 < count → before_at count ≡ 0
-unfolding before_at
-before_over count h = rw (within_above 1 269 count h)
 
 -- with none gathered, 0 - 1 is 0 too
 pub before_is : (count : ℕ) → count ≤ 269 → before_at count ≡ count - 1

@@ -1,19 +1,18 @@
 -- The listener's rules in the document's words, for any record: each is what the tests of a step come to. Assumes nothing.
 use mathlib.Core.Path.{◌≡◌, refl, ap, ◌∙◌}
 use mathlib.Core.Logic.{◌≢◌}
-use mathlib.Core.List.{[], ◌∷◌}
-use mathlib.Core.Bool.{Bool, true, false, not, cond}
+use mathlib.Core.List.{List, [], ◌∷◌}
+use mathlib.Core.Bool.{Bool, true, false, not, cond, and-false}
 use Prim.Native.Nat.{ℕ, ◌+◌, ◌-◌, ◌≤◌, ◌<◌}
-use native.Mathlib.Decide.{ℕ_discrete}
+use native.Mathlib.Decide.{ℕ_discrete, dec_le}
 use native.Mathlib.Omega.{arith}
 use lib.ListN.{length, get_or}
-use borrow.Author.Tests.{leb-false, ne_eqb}
+use borrow.Author.Tests.{leb-false, ne_eqb, lt-leb}
 use Rattle.laws.specs.Bytes.{lay}
 use Rattle.laws.proofs.Bytes.{length-lay, lay_out}
 use Rattle.laws.proofs.Tests.{never}
 use Rattle.listener.specs.declared.Listener.{Listener}
-use Rattle.listener.specs.declared.step.Step.{Step}
-use Rattle.listener.specs.Listening.{ends_frame, step_of, before_at, stepped, listened}
+use Rattle.listener.specs.Listening.{Step, ends_frame, step_of, before_at, stepped, listened}
 use Rattle.listener.specs.Handing.{Waits}
 use Rattle.listener.proofs.Cases.{not_gathering, over_full, is_full, has_room, none_before, no_return, by_line_feed, before_is}
 use Rattle.listener.proofs.Cases.{Does, starts_it, lets_pass, drops-all, adds_one, does}
@@ -80,6 +79,21 @@ module _ (l : Listener) where
 pub first_unjudged : (x y : ℕ) (g : Bool) (b : ℕ) → step_of x 0 g b ≡ step_of y 0 g b
 unfolding step_of ends_frame
 first_unjudged x y g b = refl
+
+-- nor with a count that no room has
+over_unjudged : (x y count : ℕ) (g : Bool) (b : ℕ) → 269 < count → step_of x count g b ≡ step_of y count g b
+unfolding step_of
+over_unjudged x y count g b h = rw (lt-leb count 269 h, and-false)
+
+-- so who reads the byte before right where there is one takes the defined step
+pub before_read : (room : List ℕ) (count i : ℕ) (g : Bool) (b : ℕ) → (1 ≤ count → count ≤ 269 → i ≡ count - 1)
+    → step_of (get_or room i 0) count g b ≡ step_of (get_or room (before_at count) 0) count g b
+before_read room count i g b at = go (dec_le count 269) (ℕ_discrete count 0)
+  where
+    go : Dec (count ≤ 269) → Dec (count ≡ 0) → step_of (get_or room i 0) count g b ≡ step_of (get_or room (before_at count) 0) count g b
+    go (no h) z = over_unjudged _ _ count g b (omega arith)
+    go (yes h) (yes z) = rw z (first_unjudged _ _ g b)
+    go (yes h) (no z) = rw (before_is count h, at (omega arith) h)
 
 -- where a byte is stored, 1 to 269 count then, so that the last of them is inside the room
 pub stores_inside : (before count : ℕ) (g : Bool) (b : ℕ) → (step_of before count g b).stores ≡ true

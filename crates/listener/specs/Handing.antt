@@ -4,8 +4,7 @@ use Rattle.std.proofs.Math.Option.{Option, some, none}
 use Rattle.laws.specs.Bytes.{slice}
 use Rattle.laws.specs.Checks.{among, every}
 use Rattle.listener.specs.declared.Listener.{Listener}
-use Rattle.listener.specs.declared.Listened.{Listened}
-use Rattle.listener.specs.Listening.{listened}
+use Rattle.listener.specs.Listening.{Listened, listened}
 
 -- ---- byte after byte
 

@@ -3,10 +3,17 @@ use Rattle.std.specs.Prelude.{[], ◌∷◌, Bool, true, false, cond, not, ◌&&
 use Rattle.laws.specs.Bytes.{lay, zeros}
 use Rattle.laws.specs.Checks.{within}
 use Rattle.listener.specs.declared.Listener.{Listener}
-use Rattle.listener.specs.declared.Listened.{Listened}
-use Rattle.listener.specs.declared.step.Step.{Step}
+use Rattle.listener.specs.declared.step.Effect.{Effect}
+use Rattle.listener.specs.declared.step.Effect.TheVariants.{Passes, Drops, Gathers}
 
 -- ---- over plain values: the byte before, how many are gathered, the flag, and the byte
+
+-- the count and the flag afterwards; whether the byte is stored, as the last of those counted; and whether a frame is there now
+pub record Step : Type 0 where
+  pub count : ℕ
+  pub gathering : Bool
+  pub stores : Bool
+  pub there : Bool
 
 -- who is not gathering lets the byte pass
 abbrev pub passes : ℕ → Bool → Step
@@ -34,7 +41,18 @@ step_of before count gathering byte =
     cond (eqb byte 58) starts
     (cond (gathering && leb count 269) (cond (eqb count 269) drops (gathers count (ends_frame before count byte))) (passes count gathering))
 
+-- the step that an effect is, to a count and a flag
+abbrev pub step_by : ℕ → Bool → Effect → Step
+step_by count gathering Passes = passes count gathering
+step_by count gathering Drops = drops
+step_by count gathering (Gathers at ends) = gathers at ends
+
 -- ---- over the record
+
+-- the record after a byte, and whether a frame is there now
+pub record Listened : Type 0 where
+  pub listener : Listener
+  pub there : Bool
 
 -- where the byte before stands, if there is one
 unfoldable pub before_at : ℕ → ℕ

@@ -6,8 +6,10 @@ mod step;
 ghost use Rattle.std.specs.Prelude.{◌≡◌};
 ghost use Rattle.listener.specs.Listening.{listened, idle};
 
+use step::Effect;
+
 // The bytes gathered, how many of them count, and whether it is gathering; nothing else is kept between two bytes. Who has the line holds one of these for
-// it, and lends it with each byte.
+// it, and lends it with each byte. Document 02 names these three, so the bytes gathered are no type of their own.
 #[derive(Clone, Copy)]
 pub struct Listener {
     pub room: [u8; 269],
@@ -15,40 +17,31 @@ pub struct Listener {
     pub gathering: bool,
 }
 
-// The record after a byte, and whether a frame is there now.
-#[derive(Clone, Copy)]
-pub struct Listened {
-    pub listener: Listener,
-    pub there: bool,
-}
-
 // Takes one byte of the line; true where it ends a frame, which then is the first `count` bytes of the room, until the next 3Ah. Every record is taken,
 // whatever stands in it.
 pub fn listen(l: &mut Listener, byte: u8) -> bool
     ensures { record { listener = l.new; there = result } ≡ listened l.old byte }
 {
-    let count = l.count;
-    let at = step::before_at(count);
-    let before = l.room[at];
-    let next = step::step_of(before, count, l.gathering, byte);
-    l.count = next.count;
-    l.gathering = next.gathering;
-    if next.stores {
-        l.room[next.count - 1] = byte;
+    // The last byte gathered. With none, or with a count that no room has, no step looks at it.
+    let before = l.room.get(l.count.wrapping_sub(1)).copied().unwrap_or(0);
+    match step::step_of(before, l.count, l.gathering, byte) {
+        Effect::Passes => false,
+        Effect::Drops => {
+            l.count = 0;
+            l.gathering = false;
+            false
+        }
+        Effect::Gathers { at, ends } => {
+            l.room[at] = byte;
+            l.count = at + 1;
+            l.gathering = !ends;
+            ends
+        }
     }
-    next.there
-}
-
-// The same for a record that is handed over and handed back.
-pub fn listen_by_value(l: Listener, byte: u8) -> Listened
-    ensures { result ≡ listened l byte }
-{
-    let mut listener = l;
-    let there = listen(&mut listener, byte);
-    Listened { listener, there }
 }
 
 // A record that waits for a frame's first byte.
+#[tactic(auto, unfolding(crate::specs::Listening::idle, laws::specs::Bytes::zeros))]
 pub fn idle() -> Listener
     ensures { result ≡ idle }
 {

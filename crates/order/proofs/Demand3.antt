@@ -14,8 +14,7 @@ use Rattle.image.specs.declared.cell.Cell.{Cell}
 use Rattle.image.specs.declared.version.Version.{Version}
 use Rattle.image.proofs.UsableFacts.{Usable, facts}
 use Rattle.rules.specs.declared.rule.Act.{Act}
-use Rattle.rules.specs.declared.verdict.Verdict.{Verdict}
-use Rattle.rules.specs.declared.verdict.Verdict.TheVariants.{Refused, Accepted}
+use Rattle.rules.specs.Order.{Verdict, Refused, Accepted}
 use Rattle.rules.specs.Fits.{FitVerdict}
 use Rattle.command.specs.Reply.{done, BuffersAfter}
 use Rattle.command.proofs.Commute.{Clear, says_same, leaves_swap}

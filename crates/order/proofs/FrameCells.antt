@@ -6,7 +6,7 @@ use Prim.Native.Nat.{ℕ}
 use Rattle.frame.specs.Apart.{contents_of}
 use Rattle.image.specs.declared.cell.Cell.{Cell}
 use Rattle.rules.specs.declared.rule.Act.{Act}
-use Rattle.rules.specs.declared.verdict.Verdict.TheVariants.{Refused, Accepted}
+use Rattle.rules.specs.Order.{Refused, Accepted}
 use Rattle.rules.specs.Rules.{byte}
 use Rattle.command.specs.Reply.{reads_of, writes_of}
 use Rattle.command.specs.Uses.{uses, use_of}

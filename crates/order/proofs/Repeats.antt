@@ -18,8 +18,7 @@ use Rattle.image.specs.declared.version.Version.{Version}
 use Rattle.image.specs.Version.{current}
 use Rattle.image.specs.Usable.{usable, address}
 use Rattle.rules.specs.declared.switch.Switch.{Switch}
-use Rattle.rules.specs.declared.verdict.Verdict.{Verdict}
-use Rattle.rules.specs.declared.verdict.Verdict.TheVariants.{Refused, Accepted}
+use Rattle.rules.specs.Order.{Verdict, Refused, Accepted}
 use Rattle.command.specs.Reply.{BuffersAfter, reply_in}
 use Rattle.izk.specs.Heard.{heard, Hearing, Lawful}
 use Rattle.izk.specs.Block.{served}

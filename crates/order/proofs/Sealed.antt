@@ -15,8 +15,7 @@ use Rattle.image.specs.declared.version.Version.{Version}
 use Rattle.image.specs.Usable.{address}
 use Rattle.rules.specs.declared.rule.Act.TheVariants.{Show, Sign, Store}
 use Rattle.rules.specs.declared.switch.Switch.TheVariants.{Sealed}
-use Rattle.rules.specs.declared.verdict.Verdict.{Verdict}
-use Rattle.rules.specs.declared.verdict.Verdict.TheVariants.{Refused, Accepted}
+use Rattle.rules.specs.Order.{Verdict, Refused, Accepted}
 use Rattle.rules.specs.Rules.{byte}
 use Rattle.rules.specs.Seal.{is_write}
 use Rattle.rules.proofs.Following.{accepted_past}

@@ -12,7 +12,7 @@ use Rattle.laws.proofs.Tests.{and_both, or_either, every_at, never, all_of}
 use Rattle.reorder.specs.Reorder.{place, NoClash, KeepsClashes}
 use Rattle.image.specs.declared.cell.Cell.{Cell}
 use Rattle.image.specs.Cell.{offset}
-use Rattle.rules.specs.declared.verdict.Verdict.{Verdict}
+use Rattle.rules.specs.Order.{Verdict}
 use Rattle.command.specs.Reply.{reads_of, writes_of}
 use Rattle.izk.specs.Heard.{Hearing}
 use Rattle.order.specs.Serving.{Call, nothing, Meets, Clash}

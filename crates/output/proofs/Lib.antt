@@ -1,2 +1,3 @@
 pub mod Laying
+pub mod Refusals
 pub mod Outcomes

@@ -7,8 +7,7 @@ use lib.ListN.{length, take}
 use lib.Seq.{take-length}
 use Rattle.laws.specs.Bytes.{lay}
 use Rattle.laws.proofs.Bytes.{lay-take}
-use Rattle.output.specs.declared.answer.Answer.{Answer}
-use Rattle.output.specs.Output.{OutputAfter, refuse, written, Does}
+use Rattle.output.specs.Output.{Answer, OutputAfter, refuse, written, Does}
 
 -- ---- an answer that was given
 

@@ -1,2 +1,3 @@
 pub mod Cursor
+pub mod Refusal
 pub mod Output

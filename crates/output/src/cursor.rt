@@ -3,7 +3,7 @@ ghost use Rattle.std.specs.Prelude.{[], ◌∷◌, ◌+◌, ◌<◌, ◌≤◌, 
 ghost use Rattle.laws.specs.Bytes.{zeros};
 ghost use Rattle.output.specs.Cursor.{Laid};
 
-// Where the next byte of an output goes.
+// Where the next byte of an output goes. Document 01 names a cursor by value, so the output comes beside it; whoever lays says that there is room.
 #[derive(Clone, Copy)]
 pub struct Cursor {
     pub at: usize,
@@ -23,25 +23,17 @@ impl Cursor {
         requires { self.at + length src.now ≤ length out.old }
         ensures { Laid self.at result.at out.old out.new src.now }
     {
-        let mut c = self;
-        let mut i = 0;
-        while i < src.len() {
-            c = c.put(out, src[i]);
-            i += 1;
-        }
-        c
+        let end = self.at + src.len();
+        out[self.at..end].copy_from_slice(src);
+        Cursor { at: end }
     }
 
     pub fn put_zeros(self, out: &mut [u8], n: usize) -> Cursor
         requires { self.at + n ≤ length out.old }
         ensures { Laid self.at result.at out.old out.new (zeros n) }
     {
-        let mut c = self;
-        let mut left = n;
-        while 0 < left {
-            c = c.put(out, 0);
-            left -= 1;
-        }
-        c
+        let end = self.at + n;
+        out[self.at..end].fill(0);
+        Cursor { at: end }
     }
 }

@@ -1,8 +1,8 @@
-// What a function that fills a lent output has in its hands and reports: the write cursor, and the answer.
+// The write cursor, and why a call is refused.
 #![tactic(auto)]
 
-mod answer;
 mod cursor;
+mod refusal;
 
-pub use answer::Answer;
 pub use cursor::Cursor;
+pub use refusal::Refusal;

@@ -7,11 +7,10 @@ use mathlib.Core.Bool.{true}
 use Prim.Native.Nat.{ℕ, ◌≤◌, ◌<◌}
 use native.Mathlib.Omega.{arith}
 use lib.ListN.{length}
-use Rattle.output.specs.declared.answer.Answer.{Answer}
-use Rattle.image.specs.declared.held.Held.{Held}
+use Rattle.output.specs.Output.{Answer}
 use Rattle.image.specs.Version.{current}
 use Rattle.image.specs.Usable.{usable}
-use Rattle.image.specs.Held.{held_parts}
+use Rattle.image.specs.Held.{held_parts, HeldAnswer}
 use Rattle.rules.specs.declared.switch.Switch.{Switch}
 use Rattle.rules.specs.declared.switch.Switch.TheVariants.{Unsealed, Sealed}
 use Rattle.command.specs.Reply.{BuffersAfter, Serves}
@@ -72,21 +71,21 @@ module _ (k : ℕ) (f m out : List ℕ) where
 
 module _ (m : List ℕ) (t : ℕ) where
   -- what is promised is the block's own answer for that number
-  pub panel_tells : (r p q : ℕ) → TellsPanel m t r p q ≡ (◌≡◌ {A = Held} (record { number = r; parts = p; missing = q }) (held_parts current m t))
+  pub panel_tells : (r p q : ℕ) → TellsPanel m t r p q ≡ (◌≡◌ {A = HeldAnswer} (record { number = r; parts = p; missing = q }) (held_parts current m t))
   panel_tells r p q = refl
 
   pub panel_held_one_outcome : (r s p p' q q' : ℕ) → TellsPanel m t r p q → TellsPanel m t s p' q' → (r ≡ s) × (p ≡ p') × (q ≡ q')
   panel_held_one_outcome r s p p' q q' x y =
       let e = held_parts_one_outcome m t _ _ x y in
-      (ap (λ (h : Held). h.number) e, ap (λ (h : Held). h.parts) e, ap (λ (h : Held). h.missing) e)
+      (ap (λ (h : HeldAnswer). h.number) e, ap (λ (h : HeldAnswer). h.parts) e, ap (λ (h : HeldAnswer). h.missing) e)
 
   module _ (r p q : ℕ) (x : TellsPanel m t r p q) where
     -- a refusal leaves two zeros
     pub panel_held_refused : r ≢ 0 → (p ≡ 0) × (q ≡ 0)
     panel_held_refused z =
-        let (no_parts, none_missing) = refused_held current m t (λ e. z (ap (λ (h : Held). h.number) x ∙ e)) in
-        (ap (λ (h : Held). h.parts) x ∙ no_parts, ap (λ (h : Held). h.missing) x ∙ none_missing)
+        let (no_parts, none_missing) = refused_held current m t (λ e. z (ap (λ (h : HeldAnswer). h.number) x ∙ e)) in
+        (ap (λ (h : HeldAnswer). h.parts) x ∙ no_parts, ap (λ (h : HeldAnswer). h.missing) x ∙ none_missing)
 
     -- a number above 18 is no table
     pub panel_held_above : 18 < t → usable current m ≡ true → r ≡ 10
-    panel_held_above l u = ap (λ (h : Held). h.number) (x ∙ (rw u at (above_refused current m t l)))
+    panel_held_above l u = ap (λ (h : HeldAnswer). h.number) (x ∙ (rw u at (above_refused current m t l)))

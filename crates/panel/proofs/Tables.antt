@@ -1,5 +1,5 @@
 -- Which numbers of the host's are tables: none above 18 is, so that one which goes in as 0 is answered as itself. Assumes nothing.
-use mathlib.Core.Path.{◌≡◌, refl, sym, ◌∙◌}
+use mathlib.Core.Path.{◌≡◌, refl, sym, ap, ◌∙◌}
 use mathlib.Core.List.{List}
 use mathlib.Core.Bool.{Bool, true, false, cond}
 use Prim.Native.Nat.{ℕ, ◌+◌, ◌^◌, ◌≤◌, ◌<◌}
@@ -7,15 +7,16 @@ use native.Mathlib.Decide.{dec_le}
 use native.Mathlib.Omega.{arith}
 use lib.Dec.{leb, lit≤, lit<}
 use borrow.Author.Tests.{le-leb, lt-leb}
+use Rattle.std.specs.Prelude.{Result, Ok, Err, OkIff}
+use Rattle.std.specs.Result.{result_unwrap_or}
 use Rattle.laws.specs.Bytes.{word_at}
 use Rattle.laws.specs.Checks.{within, judged}
 use Rattle.laws.proofs.Tests.{within_above}
-use Rattle.image.specs.declared.held.Held.{Held}
 use Rattle.image.specs.declared.version.Version.{Version}
 use Rattle.image.specs.Cell.{is_table}
 use Rattle.image.specs.Words.{table_word}
 use Rattle.image.specs.Usable.{usable}
-use Rattle.image.specs.Held.{unheld, held_of, held_parts}
+use Rattle.image.specs.Held.{unheld, held_of, held_parts, HeldAnswer}
 use Rattle.image.proofs.Indices.{main_stands, additional_stands, none_stands}
 use Rattle.izk.proofs.HeldAfter.{held_is}
 
@@ -32,20 +33,25 @@ module _ (v : Version) (m : List ℕ) where
   unfolding held_parts judged
   none_held t h = rw h (go (usable v m))
     where
-      go : (b : Bool) → cond {A = Held} b (unheld 10) (unheld 1) ≡ unheld (cond b 10 1)
+      go : (b : Bool) → cond {A = HeldAnswer} b (unheld 10) (unheld 1) ≡ unheld (cond b 10 1)
       go true = refl
       go false = refl
 
   pub above_refused : (t : ℕ) → 18 < t → held_parts v m t ≡ unheld (cond (usable v m) 10 1)
   above_refused t h = none_held t (above_is_none t h)
 
-  -- what goes in is answered as what the host gave
+  -- of a number that is above every table 0 says the same
   pub asked_alike : (t : ℕ) → held_parts v m (cond (leb t 18) t 0) ≡ held_parts v m t
   asked_alike t = go (dec_le t 18)
     where
       go : Dec (t ≤ 18) → held_parts v m (cond (leb t 18) t 0) ≡ held_parts v m t
       go (yes h) = rw (le-leb t 18 h)
       go (no h) = rw (lt-leb t 18 (omega arith)) (none_held 0 zero_is_none ∙ sym (above_refused t (omega arith)))
+
+  -- what goes in is answered as what the host gave, also where that is 0 because 32 bits do not hold the number
+  pub narrowed_alike : {E : Type 0} (t : ℕ) (r : Result ℕ E) → OkIff r (t < 4294967296) t → held_parts v m (result_unwrap_or r 0) ≡ held_parts v m t
+  narrowed_alike t (Ok x) h = ap (held_parts v m) h.1
+  narrowed_alike t (Err e) h = none_held 0 zero_is_none ∙ sym (above_refused t (omega arith))
 
   -- ---- worked
 

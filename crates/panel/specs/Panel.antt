@@ -1,9 +1,8 @@
 -- What the panel's host gives and is given (document 02, requests 9 and 11): the position of the key switch as a number, and each promise with the
 -- number that is returned and those that are lent. Assumes nothing.
 use Rattle.std.specs.Prelude.{◌≡◌, List, ℕ, zero, suc}
-use Rattle.image.specs.declared.held.Held.{Held}
 use Rattle.image.specs.Version.{current}
-use Rattle.image.specs.Held.{held_parts}
+use Rattle.image.specs.Held.{held_parts, HeldAnswer}
 use Rattle.command.specs.Reply.{Serves}
 use Rattle.izk.specs.Heard.{heard}
 use Rattle.izk.specs.Block.{served}
@@ -21,4 +20,4 @@ ServesPanel k f m out r n m' o = Serves (served (heard (switch_of k)) current f 
 
 -- a question for table t returned r and left p and q in the lent numbers, as it is to
 abbrev pub TellsPanel : List ℕ → ℕ → ℕ → ℕ → ℕ → Type 0
-TellsPanel m t r p q = ◌≡◌ {A = Held} (record { number = r; parts = p; missing = q }) (held_parts current m t)
+TellsPanel m t r p q = ◌≡◌ {A = HeldAnswer} (record { number = r; parts = p; missing = q }) (held_parts current m t)

@@ -3,30 +3,21 @@
 // judged at 64 bits, so that none is taken for another.
 #![tactic(auto)]
 
-ghost use Rattle.std.specs.Prelude.{◌≡◌, cond, leb};
+ghost use Rattle.std.specs.Prelude.{◌≡◌};
 ghost use Rattle.panel.specs.Panel.{switch_of, ServesPanel, TellsPanel};
 
 use rules::Switch;
 
-// The position of the key switch, by the host's number.
+// The position of the key switch, by the host's number: no `From`, since neither type is of this crate.
+#[tactic(auto, using(crate::proofs::Switches::zero_unseals, crate::proofs::Switches::others_seal))]
 fn switch_of(number: u64) -> Switch
     ensures { result ≡ switch_of number }
 {
     if number == 0 {
-        return Switch::Unsealed;
+        Switch::Unsealed
+    } else {
+        Switch::Sealed
     }
-    Switch::Sealed
-}
-
-// The host's number of a table at the width that the block takes. Above 18 there is no table: such a number goes in as 0, which is none either, and
-// is not cut.
-fn table_of(number: u64) -> u32
-    ensures { result ≡ cond (leb number 18) number 0 }
-{
-    if number > 18 {
-        return 0;
-    }
-    number as u32
 }
 
 // Serves a frame as the block does; sealed is any number but 0. The reply's length is left in `len`, and the number is returned.
@@ -41,9 +32,16 @@ pub extern "C" fn izk_serve(
     ensures { ServesPanel sealed frame.now image.old out.old
         result len.new image.new out.new }
 {
-    let answer = izk::serve(frame, switch_of(sealed), image, out);
-    *len = answer.len;
-    answer.number
+    match izk::serve(frame, switch_of(sealed), image, out) {
+        Ok(n) => {
+            *len = n;
+            0
+        }
+        Err(refusal) => {
+            *len = 0;
+            refusal.into()
+        }
+    }
 }
 
 // Leaves in `parts` how many parts of a table are held, and in `missing` the lowest that is not; the number is returned.
@@ -51,8 +49,17 @@ pub extern "C" fn izk_serve(
 pub extern "C" fn izk_held_parts(image: &[u8], table: u64, parts: &mut u8, missing: &mut u8) -> u8
     ensures { TellsPanel image.now table result parts.new missing.new }
 {
-    let held = izk::held_parts(image, table_of(table));
-    *parts = held.parts;
-    *missing = held.missing;
-    held.number
+    // A number that 32 bits do not hold is no table's: it goes in as 0, which is none either, and is not cut.
+    match izk::held_parts(image, u32::try_from(table).unwrap_or(0)) {
+        Ok(held) => {
+            *parts = held.parts;
+            *missing = held.missing.unwrap_or(0);
+            0
+        }
+        Err(refusal) => {
+            *parts = 0;
+            *missing = 0;
+            u8::from(refusal)
+        }
+    }
 }

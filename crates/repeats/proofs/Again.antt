@@ -1,6 +1,7 @@
 -- The same bytes, stored again in the same cell, change nothing; so a frame that is sent again straight away is answered as before. What carries it is that
 -- touches agree: each touch of the second store may come right behind its twin of the first, and there it changes nothing, for the cell holds the new bytes
 -- already, so that what leaves is what comes. Only what the first store laid is known: of the image no byte need be below 256. Assumes nothing.
+use Rattle.std.specs.Prelude.{None, Option, Some}
 use mathlib.Core.Path.{◌≡◌, refl, sym, ap, ap₂, ◌∙◌}
 use mathlib.Core.List.{List, [], ◌∷◌}
 use mathlib.Core.Bool.{Bool, true, false}
@@ -13,8 +14,6 @@ use Rattle.laws.proofs.Bytes.{length-lay, lay_over, length-padded, word_two}
 use Rattle.laws.proofs.Bits.{bit-set, bit_again}
 use Rattle.frame.specs.Apart.{contents_of}
 use Rattle.image.specs.declared.cell.Cell.{Cell}
-use Rattle.image.specs.declared.cell.Signed.{Signed}
-use Rattle.image.specs.declared.cell.Signed.TheVariants.{Nowhere, At}
 use Rattle.image.specs.declared.version.Version.{Version}
 use Rattle.image.specs.declared.version.Version.TheVariants.{V1, V2}
 use Rattle.image.specs.Version.{image_length}
@@ -28,7 +27,7 @@ use Rattle.storing.proofs.Stores.{cell_filled}
 use Rattle.rules.specs.declared.rule.Act.TheVariants.{Show, Sign, Store}
 use Rattle.rules.specs.declared.switch.Switch.{Switch}
 use Rattle.rules.specs.declared.switch.Switch.TheVariants.{Unsealed}
-use Rattle.rules.specs.declared.verdict.Verdict.TheVariants.{Accepted}
+use Rattle.rules.specs.Order.{Accepted}
 use Rattle.command.specs.Reply.{done, BuffersAfter, sent, reply_in}
 use Rattle.izk.specs.Heard.{answered, Hearing, Lawful}
 use Rattle.izk.specs.Since.{Turn, in_turn}
@@ -88,9 +87,9 @@ touches_settle : (v : Version) (d : Cell) → Settle (touches v d)
 touches_settle V1 d = bits_settle d
 touches_settle V2 d = go (signature_word d)
   where
-    go : (x : Signed) → Settle (amending x (bits d))
-    go Nowhere = bits_settle d
-    go (At i) = (λ o n w. amend_settles (w + (65536 - sum_of o % 65536) + sum_of n) (sum_of n), bits_settle d)
+    go : (x : Option ℕ) → Settle (amending x (bits d))
+    go None = bits_settle d
+    go (Some i) = (λ o n w. amend_settles (w + (65536 - sum_of o % 65536) + sum_of n) (sum_of n), bits_settle d)
 
 -- ---- a store made twice
 

@@ -1,4 +1,5 @@
 -- What a command stores it stores from behind what names the cell: a test of its rule alone, and all fourteen are tested at once. Assumes nothing.
+use Rattle.std.specs.Prelude.{Some}
 use mathlib.Core.Path.{◌≡◌, refl, sym, ◌∙◌}
 use mathlib.Core.List.{List}
 use mathlib.Core.Bool.{Bool, true}
@@ -9,7 +10,6 @@ use Rattle.laws.specs.Checks.{all}
 use Rattle.image.specs.declared.cell.Cell.{Cell}
 use Rattle.rules.specs.declared.rule.Act.{Act}
 use Rattle.rules.specs.declared.rule.Act.TheVariants.{Show, Sign, Store}
-use Rattle.rules.specs.declared.rule.Found.TheVariants as F
 use Rattle.rules.specs.declared.rule.Names.{Names}
 use Rattle.rules.specs.declared.rule.Names.TheVariants as N
 use Rattle.rules.specs.declared.rule.Rule.{Rule}
@@ -43,7 +43,7 @@ commands-behind : all (λ l. behind l.number l.rule) commands ≡ true
 unfolding all commands
 commands-behind = refl
 
-pub stored-from : {e k : ℕ} {d : Cell} (c : List ℕ) (r : Rule) → rule_of (byte c 2) commands ≡ F.Rule r → Follows e (Store k) d r c → k ≡ ahead d
+pub stored-from : {e k : ℕ} {d : Cell} (c : List ℕ) (r : Rule) → rule_of (byte c 2) commands ≡ Some r → Follows e (Store k) d r c → k ≡ ahead d
 stored-from {d} c r found follows =
     let t = rw (← follows.acts) at (found_tested behind (byte c 2) r commands commands-behind found) in
     eqb-true _ _ t ∙ sym (ahead_by r.names (byte c 3) (byte c 4)) ∙ rw (named_by_lem r.names c d follows.names)

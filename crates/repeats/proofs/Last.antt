@@ -19,8 +19,7 @@ use Rattle.image.specs.Cell.{is_cell}
 use Rattle.image.specs.Usable.{usable, address}
 use Rattle.rules.specs.declared.switch.Switch.{Switch}
 use Rattle.rules.specs.declared.switch.Switch.TheVariants.{Unsealed}
-use Rattle.rules.specs.declared.verdict.Verdict.{Verdict}
-use Rattle.rules.specs.declared.verdict.Verdict.TheVariants.{Refused, Accepted}
+use Rattle.rules.specs.Order.{Verdict, Refused, Accepted}
 use Rattle.command.specs.Reply.{writes_of}
 use Rattle.izk.specs.Heard.{heard, Hearing, Lawful}
 use Rattle.izk.specs.Since.{Turn, in_turn, turned, left}

@@ -25,7 +25,7 @@ use Rattle.rules.specs.declared.rule.Act.{Act}
 use Rattle.rules.specs.declared.rule.Act.TheVariants.{Show, Sign, Store}
 use Rattle.rules.specs.declared.switch.Switch.{Switch}
 use Rattle.rules.specs.declared.switch.Switch.TheVariants.{Sealed}
-use Rattle.rules.specs.declared.verdict.Verdict.TheVariants.{Accepted}
+use Rattle.rules.specs.Order.{Accepted}
 use Rattle.rules.specs.Rules.{byte}
 use Rattle.rules.specs.Seal.{lets}
 use Rattle.command.specs.Act.{leaves, writes}

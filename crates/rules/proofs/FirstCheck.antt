@@ -5,15 +5,13 @@ use mathlib.Core.List.{List, [], ◌∷◌}
 use Prim.Native.Nat.{ℕ, ◌+◌}
 use lib.ListN.{length}
 use lib.Dec.{eqb}
+use Rattle.std.specs.Prelude.{Option, Some, None}
 use Rattle.laws.specs.Checks.{Check, check, judged, first_failing}
 use Rattle.laws.proofs.Checks.{judged-map}
-use Rattle.image.specs.declared.cell.Named.{Named}
-use Rattle.image.specs.declared.cell.Named.TheVariants as Named'
-use Rattle.rules.specs.declared.rule.Found.{Found}
-use Rattle.rules.specs.declared.rule.Found.TheVariants as Found'
+use Rattle.image.specs.declared.cell.Cell.{Cell}
 use Rattle.rules.specs.declared.rule.Rule.{Rule}
 use Rattle.rules.specs.declared.switch.Switch.{Switch}
-use Rattle.rules.specs.declared.verdict.Verdict.TheVariants.{Refused, Accepted}
+use Rattle.rules.specs.Order.{Refused, Accepted}
 use Rattle.rules.specs.Rules.{byte, long_ok, named_by, values_ok, commands}
 use Rattle.rules.specs.Seal.{lets}
 use Rattle.rules.specs.Verdict.{tried_on, tried, tried_if, sought, recognised, verdict_number, is_named, rule_for, is_served, length_fits, names_one, values_fit}
@@ -38,13 +36,13 @@ recognised_number s a c =
     judged-map verdict_number Refused (check 7 (eqb (byte c 1) a) ∷ []) (sought s commands c)
     ∙ ap (λ (n : ℕ). judged (λ n. n) (check 7 (eqb (byte c 1) a) ∷ []) n) (by_rule (rule_for c) refl)
   where
-    by_name : (r : Rule) (n : Named) → verdict_number (tried_on r n c) ≡ first_failing (check 10 (is_named n) ∷ (check 11 (values_ok r.values c) ∷ []))
-    by_name r Named'.Nothing = refl
-    by_name r (Named'.Cell d) = judged-map verdict_number Refused (check 11 (values_ok r.values c) ∷ []) (Accepted r.echo r.act d)
+    by_name : (r : Rule) (n : Option Cell) → verdict_number (tried_on r n c) ≡ first_failing (check 10 (is_named n) ∷ (check 11 (values_ok r.values c) ∷ []))
+    by_name r None = refl
+    by_name r (Some d) = judged-map verdict_number Refused (check 11 (values_ok r.values c) ∷ []) (Accepted r.echo r.act d)
 
-    by_rule : (x : Found) → rule_for c ≡ x → verdict_number (tried_if s x c) ≡ first_failing (command_checks s c)
-    by_rule Found'.Nothing f = rw f
-    by_rule (Found'.Rule r) f =
+    by_rule : (x : Option Rule) → rule_for c ≡ x → verdict_number (tried_if s x c) ≡ first_failing (command_checks s c)
+    by_rule None f = rw f
+    by_rule (Some r) f =
         let past = check 16 (lets s (byte c 2)) ∷ (check 9 (long_ok r.long (length c + 1)) ∷ []) in
         judged-map verdict_number Refused past (tried_on r (named_by r.names c) c)
         ∙ rw f (ap (λ (n : ℕ). judged (λ n. n) past n) (by_name r (named_by r.names c)))

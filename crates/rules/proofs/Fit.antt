@@ -10,28 +10,24 @@ use lib.ListN.{length, get_or, drop, length-drop}
 use lib.Seq.{get_or-drop}
 use lib.Dec.{leb, eqb}
 use borrow.Author.Tests.{leb-true, eqb-true}
+use Rattle.std.specs.Prelude.{Option, Some, None}
 use Rattle.laws.specs.Checks.{Check, judged, AllPass, all}
 use Rattle.laws.proofs.Tests.{and_both, within_is, never}
 use Rattle.laws.proofs.Checks.{Judged, passed, failed, judge, judged_passed}
 use Rattle.image.specs.declared.cell.Cell.{Cell}
 use Rattle.image.specs.declared.cell.Cell.TheVariants as Cells
-use Rattle.image.specs.declared.cell.Named.{Named}
-use Rattle.image.specs.declared.cell.Named.TheVariants as Named'
 use Rattle.image.specs.Cell.{size, extent, is_cell, is_item}
 use Rattle.image.proofs.Cells.{extent_view}
 use Rattle.storing.specs.Stored.{FitStore}
 use Rattle.rules.specs.declared.rule.Act.{Act}
 use Rattle.rules.specs.declared.rule.Act.TheVariants.{Show, Sign, Store}
-use Rattle.rules.specs.declared.rule.Found.{Found}
-use Rattle.rules.specs.declared.rule.Found.TheVariants as F
 use Rattle.rules.specs.declared.rule.Long.{Long}
 use Rattle.rules.specs.declared.rule.Long.TheVariants.{Is, Rowed}
 use Rattle.rules.specs.declared.rule.Names.{Names}
 use Rattle.rules.specs.declared.rule.Names.TheVariants as N
 use Rattle.rules.specs.declared.rule.Rule.{Rule}
 use Rattle.rules.specs.declared.switch.Switch.{Switch}
-use Rattle.rules.specs.declared.verdict.Verdict.{Verdict}
-use Rattle.rules.specs.declared.verdict.Verdict.TheVariants.{Refused, Accepted}
+use Rattle.rules.specs.Order.{Verdict, Refused, Accepted}
 use Rattle.rules.specs.Rules.{Command, byte, rowed, long_ok, named_by, commands, rule_of}
 use Rattle.rules.specs.Verdict.{tried_on, tried, tried_if, sought, recognised}
 use Rattle.rules.specs.Fits.{Fit, longest, FitAccepted, FitVerdict}
@@ -61,12 +57,12 @@ pub record Has (k : Kind) (c : List ℕ) (d : Cell) : Type 0 where
 uncounted : (x d : Cell) (c : List ℕ) → Alike d x → Has (record { first = x; counts = false }) c d
 uncounted x d c a = record { alike = a; rows = λ e. absurd (never e) }
 
-cell_is : (x d : Cell) (c : List ℕ) → Named'.Cell x ≡ Named'.Cell d → Has (record { first = x; counts = false }) c d
+cell_is : (x d : Cell) (c : List ℕ) → Some x ≡ Some d → Has (record { first = x; counts = false }) c d
 cell_is x d c e =
     let i : d ≡ x = cc in
     uncounted x d c (rw i (record { cell = refl; item = refl; sized = refl; counted = λ b. refl }))
 
-pub names : (s : Names) (c : List ℕ) (d : Cell) → named_by s c ≡ Named'.Cell d → Has (kind s) c d
+pub names : (s : Names) (c : List ℕ) (d : Cell) → named_by s c ≡ Some d → Has (kind s) c d
 names N.Mask c d e = cell_is Cells.Mask d c e
 names N.Mode c d e = cell_is Cells.Mode d c e
 names N.Clock c d e = cell_is Cells.Clock d c e
@@ -144,7 +140,7 @@ act_fits_lem (Store i) l s c d h g f =
     let p = and_both (is_cell (kind s).first) _ f in
     store_fits_lem c d (kind s) h i l g (h.alike.cell ∙ p.0) p.1
 
-rule_fits_lem : (r : Rule) → rule_fits r ≡ true → (c : List ℕ) (d : Cell) → long_ok r.long (length c + 1) ≡ true → named_by r.names c ≡ Named'.Cell d
+rule_fits_lem : (r : Rule) → rule_fits r ≡ true → (c : List ℕ) (d : Cell) → long_ok r.long (length c + 1) ≡ true → named_by r.names c ≡ Some d
     → FitAccepted r.echo r.act d c
 rule_fits_lem r f c d l n =
     let p = and_both (leb (r.echo + 3) (shortest r.long)) _ f in
@@ -171,34 +167,38 @@ tried_fits : (r : Rule) → rule_fits r ≡ true → (c : List ℕ) → FitVerdi
 unfolding tried
 tried_fits r f c = judged_fits _ _ c (λ l. go (named_by r.names c) refl l.0)
   where
-    go : (n : Named) → named_by r.names c ≡ n → long_ok r.long (length c + 1) ≡ true → FitVerdict (tried_on r n c) c
-    go Named'.Nothing e l = tt
-    go (Named'.Cell d) e l = judged_fits _ (Accepted r.echo r.act d) c (λ t. rule_fits_lem r f c d l e)
+    go : (n : Option Cell) → named_by r.names c ≡ n → long_ok r.long (length c + 1) ≡ true → FitVerdict (tried_on r n c) c
+    go None e l = tt
+    go (Some d) e l = judged_fits _ (Accepted r.echo r.act d) c (λ t. rule_fits_lem r f c d l e)
 
 -- what all commands of a list are tested for, each that is found there has
 pub found_tested : (t : ℕ → Rule → Bool) (k : ℕ) (r : Rule) (ls : List Command) → all (λ l. t l.number l.rule) ls ≡ true
-    → rule_of k ls ≡ F.Rule r → t k r ≡ true
+    → rule_of k ls ≡ Some r → t k r ≡ true
 unfolding all rule_of
 found_tested t k r [] h i = absurd (let z : ◌≡◌ {A = ℕ} 0 1 = cc in omega arith)
 found_tested t k r (l ∷ ls) h i =
     go (eqb l.number k) refl (and_both (t l.number l.rule) (all (λ l. t l.number l.rule) ls) h) i (λ g j. found_tested t k r ls g j)
   where
     go : (b : Bool) → eqb l.number k ≡ b → (t l.number l.rule ≡ true) × (all (λ l. t l.number l.rule) ls ≡ true)
-        → cond b (F.Rule l.rule) (rule_of k ls) ≡ F.Rule r
-        → (all (λ l. t l.number l.rule) ls ≡ true → rule_of k ls ≡ F.Rule r → t k r ≡ true) → t k r ≡ true
+        → cond b (Some l.rule) (rule_of k ls) ≡ Some r
+        → (all (λ l. t l.number l.rule) ls ≡ true → rule_of k ls ≡ Some r → t k r ≡ true) → t k r ≡ true
     go true e p j ih =
         let n : l.number ≡ k = eqb-true _ _ e in
         let q : l.rule ≡ r = cc in
         rw (← n, ← q) p.0
     go false e p j ih = ih p.1 j
 
+-- so what is tried by a command's rule fits
+pub found_fits : (k : ℕ) (r : Rule) (c : List ℕ) → rule_of k commands ≡ Some r → FitVerdict (tried r c) c
+found_fits k r c i = tried_fits r (found_tested (λ k x. rule_fits x) k r commands commands-fit i) c
+
 sought_fits : (s : Switch) (c : List ℕ) → FitVerdict (sought s commands c) c
 unfolding sought
 sought_fits s c = go (rule_of (byte c 2) commands) refl
   where
-    go : (x : Found) → rule_of (byte c 2) commands ≡ x → FitVerdict (tried_if s x c) c
-    go F.Nothing i = tt
-    go (F.Rule r) i = judged_fits _ (tried r c) c (λ t. tried_fits r (found_tested (λ k x. rule_fits x) (byte c 2) r commands commands-fit i) c)
+    go : (x : Option Rule) → rule_of (byte c 2) commands ≡ x → FitVerdict (tried_if s x c) c
+    go None i = tt
+    go (Some r) i = judged_fits _ (tried r c) c (λ t. found_fits (byte c 2) r c i)
 
 -- ---- every verdict fits
 

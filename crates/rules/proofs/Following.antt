@@ -3,18 +3,14 @@ use mathlib.Core.Path.{◌≡◌, refl, sym, ap, ◌∙◌}
 use mathlib.Core.List.{List}
 use Prim.Native.Nat.{ℕ}
 use native.Mathlib.Omega.{arith}
+use Rattle.std.specs.Prelude.{Option, Some, None}
 use Rattle.laws.specs.Checks.{Check, judged, AllPass}
 use Rattle.laws.proofs.Checks.{Judged, passed, failed, judge, judged_passed}
 use Rattle.image.specs.declared.cell.Cell.{Cell}
-use Rattle.image.specs.declared.cell.Named.{Named}
-use Rattle.image.specs.declared.cell.Named.TheVariants as Named'
 use Rattle.rules.specs.declared.rule.Act.{Act}
-use Rattle.rules.specs.declared.rule.Found.{Found}
-use Rattle.rules.specs.declared.rule.Found.TheVariants as F
 use Rattle.rules.specs.declared.rule.Rule.{Rule}
 use Rattle.rules.specs.declared.switch.Switch.{Switch}
-use Rattle.rules.specs.declared.verdict.Verdict.{Verdict}
-use Rattle.rules.specs.declared.verdict.Verdict.TheVariants.{Refused, Accepted}
+use Rattle.rules.specs.Order.{Verdict, Refused, Accepted}
 use Rattle.rules.specs.Rules.{byte, named_by, commands, rule_of}
 use Rattle.rules.specs.Verdict.{tried_on, tried, tried_if, sought, recognised}
 use Rattle.rules.specs.Fits.{Follows}
@@ -31,21 +27,21 @@ module _ {e : ℕ} {a : Act} {d : Cell} where
   pub accepted_past : (cs : List Check) (r : Verdict) → judged Refused cs r ≡ Accepted e a d → r ≡ Accepted e a d
   accepted_past cs r h = sym (judged_passed Refused cs r (accepted_passes cs r h)) ∙ h
 
-  pub recognised_follows : (s : Switch) (b : ℕ) (c : List ℕ) (r : Rule) → recognised s b c ≡ Accepted e a d → rule_of (byte c 2) commands ≡ F.Rule r
+  pub recognised_follows : (s : Switch) (b : ℕ) (c : List ℕ) (r : Rule) → recognised s b c ≡ Accepted e a d → rule_of (byte c 2) commands ≡ Some r
       → Follows e a d r c
   unfolding recognised sought tried
   recognised_follows s b c r h l = go (named_by r.names c) refl (accepted_past _ _ (accepted_past _ _ (rw l at (accepted_past _ _ h))))
     where
-      go : (n : Named) → named_by r.names c ≡ n → tried_on r n c ≡ Accepted e a d → Follows e a d r c
-      go Named'.Nothing i x = absurd (let z : ◌≡◌ {A = ℕ} 0 1 = cc in omega arith)
-      go (Named'.Cell d') i x =
+      go : (n : Option Cell) → named_by r.names c ≡ n → tried_on r n c ≡ Accepted e a d → Follows e a d r c
+      go None i x = absurd (let z : ◌≡◌ {A = ℕ} 0 1 = cc in omega arith)
+      go (Some d') i x =
           let y : Accepted r.echo r.act d' ≡ Accepted e a d = accepted_past _ _ x in
-          record { echoes = cc; acts = cc; names = i ∙ ap Named'.Cell cc }
+          record { echoes = cc; acts = cc; names = i ∙ ap Some cc }
 
-  pub recognised_known : (s : Switch) (b : ℕ) (c : List ℕ) → recognised s b c ≡ Accepted e a d → (r : Rule) × (rule_of (byte c 2) commands ≡ F.Rule r)
+  pub recognised_known : (s : Switch) (b : ℕ) (c : List ℕ) → recognised s b c ≡ Accepted e a d → (r : Rule) × (rule_of (byte c 2) commands ≡ Some r)
   unfolding recognised sought
   recognised_known s b c h = go (rule_of (byte c 2) commands) refl (accepted_past _ _ h)
     where
-      go : (x : Found) → rule_of (byte c 2) commands ≡ x → tried_if s x c ≡ Accepted e a d → (r : Rule) × (rule_of (byte c 2) commands ≡ F.Rule r)
-      go F.Nothing i x = absurd (let z : ◌≡◌ {A = ℕ} 0 1 = cc in omega arith)
-      go (F.Rule r) i x = (r, i)
+      go : (x : Option Rule) → rule_of (byte c 2) commands ≡ x → tried_if s x c ≡ Accepted e a d → (r : Rule) × (rule_of (byte c 2) commands ≡ Some r)
+      go None i x = absurd (let z : ◌≡◌ {A = ℕ} 0 1 = cc in omega arith)
+      go (Some r) i x = (r, i)

@@ -1,66 +1,23 @@
--- What the code that judges a body cites: the fourteen commands, reserve bytes and rising rows, as a loop or a match meets them. Assumes nothing.
-use mathlib.Core.Path.{◌≡◌, refl, sym, ap, ◌∙◌}
-use mathlib.Core.Bool.{Bool, true, ◌&&◌, and-true, and-false}
+-- What the code that judges a body cites: reserve bytes and rising rows, as the code meets them. Assumes nothing.
+use mathlib.Core.Path.{◌≡◌, refl, ap, ◌∙◌}
+use mathlib.Core.Bool.{Bool, true, ◌&&◌}
 use mathlib.Core.List.{List, [], ◌∷◌}
-use Prim.Native.Nat.{ℕ, zero, suc, ◌+◌, ◌-◌, ◌*◌, ◌≤◌, ◌<◌}
+use Prim.Native.Nat.{ℕ, zero, suc, ◌+◌, ◌-◌, ◌≤◌, ◌<◌}
+use native.Mathlib.Decide.{dec_lt}
 use native.Mathlib.Numerals.{add-one}
 use native.Mathlib.Omega.{arith}
-use lib.ListN.{length, get_or, drop, length-drop, get_or-eq_default}
+use lib.ListN.{length, get_or, take, drop, length-take, length-drop, get_or-eq_default}
 use lib.Dec.{eqb}
 use lib.Signed.{lt_z}
-use borrow.Author.Tests.{eq-eqb, ne_eqb}
-use Rattle.laws.proofs.Walks.{next, next2}
-use Rattle.image.specs.declared.cell.Named.TheVariants as Named
-use Rattle.image.specs.Cell.{when, errors_named}
-use Rattle.rules.specs.declared.rule.Found.TheVariants.{Nothing}
-use Rattle.rules.specs.Rules.{Command, byte, rule_of, rows_named, zero_from, blank, degrees, rises}
-
--- ---- the fourteen commands
-
--- what the last arm of a match on k knows: k is the number of no command, each of which one arm more ruled out
-abbrev pub NoneOf : ℕ → Type 0 → List Command → Type 0
-NoneOf k T [] = T
-NoneOf k T (l ∷ ls) = NoneOf k (T × (k ≡ l.number → ⊥)) ls
-
-known : (k : ℕ) (T : Type 0) (ls : List Command) → NoneOf k T ls → T × (Nothing ≡ rule_of k ls)
-unfolding rule_of
-known k T [] h = (h, refl)
-known k T (l ∷ ls) h =
-    let p = known k (T × (k ≡ l.number → ⊥)) ls h in
-    (p.0.0, rw (ne_eqb l.number k (λ e. p.0.1 (sym e))) p.1)
-
-pub no_command : (k : ℕ) (ls : List Command) → NoneOf k (Unit {0}) ls → Nothing ≡ rule_of k ls
-no_command k ls h = (known k (Unit {0}) ls h).1
-
--- ---- the count of rows
-
-module _ (c : List ℕ) (n : ℕ) (counted : n ≡ byte c 4) where
-  pub rows_uncounted : (4 + 3 * n ≡ length c → ⊥) → Named.Nothing ≡ rows_named c
-  unfolding rows_named when
-  rows_uncounted h = rw (← counted, ne_eqb _ _ h, and-false)
-
-  pub rows-counted : (t : ℕ) → 4 + 3 * n ≡ length c → t ≡ byte c 3 → errors_named t ≡ rows_named c
-  unfolding rows_named errors_named
-  rows-counted t h e = rw (← counted, eq-eqb _ _ h, and-true, e)
+use Rattle.std.proofs.lemmas.List.{get_or-take, take_all}
+use Rattle.laws.specs.Checks.{all}
+use Rattle.laws.proofs.Walks.{next, next2, none_left}
+use Rattle.rules.specs.Rules.{zero_from, blank, degrees, rises}
 
 -- ---- reserve
 
-module _ (c : List ℕ) (b to : ℕ) where
-  pub blank_by : b ≤ to → blank c b to ≡ (eqb (byte c b) 0 && blank c (b + 1) to)
-  unfolding blank zero_from
-  blank_by h =
-      let n : to + 1 - b ≡ suc (to - b) = omega arith in
-      let m : to + 1 - (b + 1) ≡ to - b = omega arith in
-      rw (n, m, add-one)
-
-  pub blank-done : to < b → blank c b to ≡ true
-  unfolding blank zero_from
-  blank-done h =
-      let n : to + 1 - b ≡ 0 = omega arith in
-      rw n
-
--- past its end a body reads as 0, so that no byte there decides
 module _ (c : List ℕ) where
+  -- past its end a body reads as 0, so that no byte there decides
   zero_past : (n b : ℕ) → length c < b → zero_from c b n ≡ true
   unfolding zero_from
   zero_past zero b h = refl
@@ -68,15 +25,30 @@ module _ (c : List ℕ) where
       let g : length c ≤ b - 1 = omega arith in
       rw (get_or-eq_default c 0 g, zero_past n (suc b) (omega arith))
 
-  zero-short : (n m b : ℕ) → n ≤ m → length c < b + n → zero_from c b n ≡ zero_from c b m
-  unfolding zero_from
-  zero-short zero m b l h = sym (zero_past m b (omega arith))
-  zero-short (suc n) zero b l h = absurd (omega arith)
-  zero-short (suc n) (suc m) b l h = rw (zero-short n m (suc b) (omega arith) (omega arith))
+  -- of its first bytes those from index k on
+  zero_kept : (to n k : ℕ) → n ≡ to - k → all (λ x. eqb x 0) (drop k (take to c)) ≡ zero_from c (suc k) n
+  unfolding all zero_from
+  zero_kept to zero k e = rw (none_left (take to c) k (omega (arith, length-take to c)))
+  zero_kept to (suc n) k e = go (dec_lt k (length c)) (zero_kept to n (k + 1) (omega arith))
+    where
+      go : Dec (k < length c) → all (λ x. eqb x 0) (drop (k + 1) (take to c)) ≡ zero_from c (suc (k + 1)) n
+          → all (λ x. eqb x 0) (drop k (take to c)) ≡ zero_from c (suc k) (suc n)
+      go (yes l) h =
+          let i : k < length (take to c) = omega (arith, length-take to c) in
+          let b : k < to = omega arith in
+          let j : suc k - 1 ≡ k = omega arith in
+          rw (next (take to c) k i, get_or-take to c k 0 b, h, j, add-one)
+      go (no l) h = rw (none_left (take to c) k (omega (arith, length-take to c)), zero_past (suc n) (suc k) (omega arith))
 
-  pub blank-short : (from to : ℕ) → length c ≤ to → blank c from (length c) ≡ blank c from to
+  pub blank_kept : (from to : ℕ) → 1 ≤ from → all (λ x. eqb x 0) (drop (from - 1) (take to c)) ≡ blank c from to
   unfolding blank
-  blank-short from to h = zero-short (length c + 1 - from) (to + 1 - from) from (omega arith) (omega arith)
+  blank_kept from to h =
+      let f : suc (from - 1) ≡ from = omega arith in
+      let n : to - (from - 1) ≡ to + 1 - from = omega arith in
+      zero_kept to (to - (from - 1)) (from - 1) refl ∙ rw (f, n)
+
+  pub blank_short : (from to : ℕ) → 1 ≤ from → length c ≤ to → all (λ x. eqb x 0) (drop (from - 1) c) ≡ blank c from to
+  blank_short from to h l = rw (take_all to c l) at (blank_kept from to h)
 
 -- ---- rows
 

@@ -7,11 +7,11 @@ use native.Mathlib.Omega.{arith}
 use lib.ListN.{length}
 use lib.Dec.{ltb, eqb}
 use borrow.Author.Tests.{eqb-true, lt-ltb}
+use Rattle.std.specs.Prelude.{Some}
 use Rattle.laws.specs.Checks.{within}
 use Rattle.laws.proofs.Tests.{and_both, within_is}
 use Rattle.image.specs.declared.cell.Cell.{Cell}
 use Rattle.image.specs.declared.cell.Cell.TheVariants as Cells
-use Rattle.image.specs.declared.cell.Named.TheVariants as Named'
 use Rattle.image.specs.Cell.{size, extent, is_cell, is_item, when, constants_named, errors_named, is_table, table_named, part_named}
 use Rattle.image.proofs.Indices.{index_below}
 use Rattle.rules.specs.Rules.{byte, rows_named}
@@ -23,7 +23,7 @@ pub record Alike (d x : Cell) : Type 0 where
   pub sized : size d ≡ size x
   pub counted : (b : ℕ) → extent d b ≡ extent x b
 
-pub when_cell : (t : Bool) (x d : Cell) → when t x ≡ Named'.Cell d → (t ≡ true) × (x ≡ d)
+pub when_cell : (t : Bool) (x d : Cell) → when t x ≡ Some d → (t ≡ true) × (x ≡ d)
 unfolding when
 when_cell true x d e = (refl, cc)
 when_cell false x d e = absurd (let z : ◌≡◌ {A = ℕ} 0 1 = cc in omega arith)
@@ -32,24 +32,24 @@ errors_alike : (k : ℕ) → k < 8 → Alike (Cells.Errors k) (Cells.Errors 0)
 errors_alike k h = record { cell = lt-ltb k 8 h; item = lt-ltb k 8 h; sized = refl; counted = λ b. refl }
 
 module _ (d : Cell) (n : ℕ) where
-  pub constants_named_lem : constants_named n ≡ Named'.Cell d → Alike d (Cells.Constants 0)
+  pub constants_named_lem : constants_named n ≡ Some d → Alike d (Cells.Constants 0)
   unfolding constants_named
   constants_named_lem e = let p = when_cell _ _ _ e in rw (← p.1) (record { cell = p.0; item = p.0; sized = refl; counted = λ b. refl })
 
-  pub errors_named_lem : errors_named n ≡ Named'.Cell d → Alike d (Cells.Errors 0)
+  pub errors_named_lem : errors_named n ≡ Some d → Alike d (Cells.Errors 0)
   unfolding errors_named
   errors_named_lem e =
       let p = when_cell _ _ _ e in
       let w = within_is 1 8 n p.0 in
       rw (← p.1) (errors_alike _ (omega arith))
 
-  pub table_named_lem : table_named n ≡ Named'.Cell d → Alike d (Cells.Table 0)
+  pub table_named_lem : table_named n ≡ Some d → Alike d (Cells.Table 0)
   unfolding table_named
   table_named_lem e =
       let p = when_cell _ _ _ e in
       rw (← p.1) (record { cell = refl; item = lt-ltb _ _ (index_below n p.0); sized = refl; counted = λ b. refl })
 
-  pub part_named_lem : (q : ℕ) → part_named n q ≡ Named'.Cell d → Alike d (Cells.Part 0 0)
+  pub part_named_lem : (q : ℕ) → part_named n q ≡ Some d → Alike d (Cells.Part 0 0)
   unfolding part_named
   part_named_lem q e =
       let p = when_cell _ _ _ e in
@@ -62,7 +62,7 @@ module _ (d : Cell) (n : ℕ) where
 abbrev pub Counted : List ℕ → Cell → Type 0
 Counted c d = Alike d (Cells.Errors 0) × (4 + 3 * byte c 4 ≡ length c)
 
-pub rows_named_lem : (d : Cell) (c : List ℕ) → rows_named c ≡ Named'.Cell d → Counted c d
+pub rows_named_lem : (d : Cell) (c : List ℕ) → rows_named c ≡ Some d → Counted c d
 unfolding rows_named
 rows_named_lem d c e =
     let p = when_cell _ _ _ e in

@@ -3,14 +3,12 @@ use mathlib.Core.List.{List, [], ◌∷◌}
 use mathlib.Core.Bool.{Bool, true, false, cond}
 use Prim.Native.Nat.{ℕ}
 use lib.Dec.{lit<}
+use Rattle.std.specs.Prelude.{Option, Some, None}
 use Rattle.laws.specs.Checks.{Check, judged}
-use Rattle.image.specs.declared.cell.Named.{Named}
-use Rattle.image.specs.declared.cell.Named.TheVariants as Named'
-use Rattle.rules.specs.declared.rule.Found.{Found}
-use Rattle.rules.specs.declared.rule.Found.TheVariants as F
+use Rattle.image.specs.declared.cell.Cell.{Cell}
+use Rattle.rules.specs.declared.rule.Rule.{Rule}
 use Rattle.rules.specs.declared.switch.Switch.{Switch}
-use Rattle.rules.specs.declared.verdict.Verdict.{Verdict}
-use Rattle.rules.specs.declared.verdict.Verdict.TheVariants.{Refused, Accepted}
+use Rattle.rules.specs.Order.{Verdict, Refused, Accepted}
 use Rattle.rules.specs.Rules.{byte, named_by, commands, rule_of}
 use Rattle.rules.specs.Verdict.{tried_on, tried, tried_if, sought, recognised}
 use Rattle.rules.specs.Fits.{IsRefusal, Numbered}
@@ -28,15 +26,15 @@ judged-numbered (c ∷ cs) r a n = go c.passes (judged-numbered cs r a.1 n)
     go true ih = ih
     go false ih = a.0
 
-found_numbered : (s : Switch) (x : Found) (c : List ℕ) → Numbered (tried_if s x c)
+found_numbered : (s : Switch) (x : Option Rule) (c : List ℕ) → Numbered (tried_if s x c)
 unfolding tried
-found_numbered s F.Nothing c = (lit< tt, lit< tt)
-found_numbered s (F.Rule r) c =
+found_numbered s None c = (lit< tt, lit< tt)
+found_numbered s (Some r) c =
     judged-numbered _ (tried r c) ((lit< tt, lit< tt), tt) (judged-numbered _ _ ((lit< tt, lit< tt), tt) (go (named_by r.names c)))
   where
-    go : (n : Named) → Numbered (tried_on r n c)
-    go Named'.Nothing = (lit< tt, lit< tt)
-    go (Named'.Cell d) = judged-numbered _ (Accepted r.echo r.act d) ((lit< tt, lit< tt), tt) tt
+    go : (n : Option Cell) → Numbered (tried_on r n c)
+    go None = (lit< tt, lit< tt)
+    go (Some d) = judged-numbered _ (Accepted r.echo r.act d) ((lit< tt, lit< tt), tt) tt
 
 pub recognised-numbered : (s : Switch) (a : ℕ) (c : List ℕ) → Numbered (recognised s a c)
 unfolding recognised sought

@@ -6,15 +6,14 @@ use mathlib.Core.Bool.{Bool, true, false, cond}
 use Prim.Native.Nat.{ℕ, ◌-◌, ◌≤◌}
 use lib.Dec.{eqb}
 use borrow.Author.Tests.{eqb-true, eq-eqb}
+use Rattle.std.specs.Prelude.{Some}
 use Rattle.laws.specs.Checks.{within, all}
 use Rattle.laws.proofs.Tests.{and_both, within_is}
 use Rattle.image.specs.declared.cell.Cell.{Cell}
 use Rattle.image.specs.declared.cell.Cell.TheVariants as Cells
-use Rattle.image.specs.declared.cell.Named.TheVariants as Named'
 use Rattle.image.specs.Cell.{size, is_table, table_index, part_named}
 use Rattle.rules.specs.declared.rule.Act.{Act}
 use Rattle.rules.specs.declared.rule.Act.TheVariants.{Show, Sign, Store}
-use Rattle.rules.specs.declared.rule.Found.TheVariants as F
 use Rattle.rules.specs.declared.rule.Names.{Names}
 use Rattle.rules.specs.declared.rule.Names.TheVariants as N
 use Rattle.rules.specs.declared.rule.Rule.{Rule}
@@ -40,7 +39,7 @@ commands_by_59 = refl
 
 -- ---- what an accepted body stores
 
-module _ {e : ℕ} {a : Act} {d : Cell} (c : List ℕ) (r : Rule) (found : rule_of (byte c 2) commands ≡ F.Rule r) (follows : Follows e a d r c) where
+module _ {e : ℕ} {a : Act} {d : Cell} (c : List ℕ) (r : Rule) (found : rule_of (byte c 2) commands ≡ Some r) (follows : Follows e a d r c) where
   pub part_by_59 : (n k p : ℕ) → a ≡ Store n → d ≡ Cells.Part k p → byte c 2 ≡ 59
   part_by_59 n k p i j =
       let big : size (kind r.names).first ≡ 128 = sym (names r.names c d follows.names).alike.sized ∙ ap size j in
@@ -60,7 +59,7 @@ module _ {e : ℕ} {a : Act} {d : Cell} (c : List ℕ) (r : Rule) (found : rule_
       let f = rw i at found in
       let act : r.act ≡ Store 4 = cc in
       let s : r.names ≡ N.TablePart = cc in
-      let n : part_named (byte c 3) (byte c 4) ≡ Named'.Cell d = rw s at follows.names in
+      let n : part_named (byte c 3) (byte c 4) ≡ Some d = rw s at follows.names in
       let p = when_cell _ _ _ n in
       let b = and_both (is_table (byte c 3)) (within 1 11 (byte c 4)) p.0 in
       record { acts = follows.acts ∙ act; table = b.0; low = (within_is 1 11 (byte c 4) b.1).0; cell = sym p.1 }

@@ -7,18 +7,17 @@ use mathlib.Core.Bool.{Bool, true, false, cond, ◌&&◌, ◌||◌, not}
 use Prim.Native.Nat.{ℕ}
 use lib.Dec.{eqb}
 use borrow.Author.Tests.{eq-eqb, not-true}
+use Rattle.std.specs.Prelude.{Option, Some, None}
 use Rattle.laws.specs.Checks.{check, judged, all, among}
 use Rattle.laws.proofs.Tests.{never, all_among}
 use Rattle.laws.proofs.Checks.{judged_either}
 use Rattle.image.specs.declared.cell.Cell.{Cell}
 use Rattle.rules.specs.declared.rule.Act.{Act}
 use Rattle.rules.specs.declared.rule.Act.TheVariants.{Show, Sign, Store}
-use Rattle.rules.specs.declared.rule.Found.{Found}
-use Rattle.rules.specs.declared.rule.Found.TheVariants as F
 use Rattle.rules.specs.declared.rule.Rule.{Rule}
 use Rattle.rules.specs.declared.switch.Switch.{Switch}
 use Rattle.rules.specs.declared.switch.Switch.TheVariants.{Unsealed, Sealed}
-use Rattle.rules.specs.declared.verdict.Verdict.TheVariants.{Refused, Accepted}
+use Rattle.rules.specs.Order.{Refused, Accepted}
 use Rattle.rules.specs.Rules.{byte, commands, rule_of}
 use Rattle.rules.specs.Seal.{lets, writing, is_write, lets_do}
 use Rattle.rules.specs.Verdict.{tried, tried_if, sought, recognised, is_found, rule_for}
@@ -33,9 +32,9 @@ pub unsealed_recognises : (a : ℕ) (c : List ℕ) → recognised Unsealed a c �
 unfolding recognised sought lets judged
 unsealed_recognises a c = ap (judged Refused (check 7 (eqb (byte c 1) a) ∷ [])) (same (rule_for c))
   where
-    same : (x : Found) → tried_if Unsealed x c ≡ tried_before x c
-    same F.Nothing = refl
-    same (F.Rule r) = refl
+    same : (x : Option Rule) → tried_if Unsealed x c ≡ tried_before x c
+    same None = refl
+    same (Some r) = refl
 
 -- ---- sealed: by the command's number
 
@@ -50,9 +49,9 @@ pub write_refused : (a : ℕ) (c : List ℕ) → is_write (byte c 2) ≡ true
 unfolding recognised sought judged
 write_refused a c w = ap (judged Refused (check 7 (eqb (byte c 1) a) ∷ [])) (go (rule_for c) (barred (byte c 2) w))
   where
-    go : (x : Found) → (is_found x && not (lets Sealed (byte c 2))) ≡ true → tried_if Sealed x c ≡ Refused 16
-    go F.Nothing b = absurd (never b)
-    go (F.Rule r) b = rw (not-true (lets Sealed (byte c 2)) b)
+    go : (x : Option Rule) → (is_found x && not (lets Sealed (byte c 2))) ≡ true → tried_if Sealed x c ≡ Refused 16
+    go None b = absurd (never b)
+    go (Some r) b = rw (not-true (lets Sealed (byte c 2)) b)
 
 -- every other command that the block serves is let
 abbrev by_number : ℕ → Rule → Bool
@@ -66,19 +65,19 @@ pub others_recognised : (a : ℕ) (c : List ℕ) → is_write (byte c 2) ≡ fal
 unfolding recognised sought lets judged
 others_recognised a c w = ap (judged Refused (check 7 (eqb (byte c 1) a) ∷ [])) (go (rule_for c) refl)
   where
-    go : (x : Found) → rule_for c ≡ x → tried_if Sealed x c ≡ tried_if Unsealed x c
-    go F.Nothing e = refl
-    go (F.Rule r) e = let t = found_tested by_number (byte c 2) r commands commands_by_number e in rw (rw w at t) refl
+    go : (x : Option Rule) → rule_for c ≡ x → tried_if Sealed x c ≡ tried_if Unsealed x c
+    go None e = refl
+    go (Some r) e = let t = found_tested by_number (byte c 2) r commands commands_by_number e in rw (rw w at t) refl
 
 -- so sealing changes nothing of a verdict, or makes it a 16
 pub recognised_or_16 : (a : ℕ) (c : List ℕ) → (recognised Sealed a c ≡ recognised Unsealed a c) ⊎ (recognised Sealed a c ≡ Refused 16)
 unfolding recognised sought lets judged
 recognised_or_16 a c = judged_either Refused (check 7 (eqb (byte c 1) a) ∷ []) _ _ (Refused 16) (go (rule_for c) (lets Sealed (byte c 2)) refl)
   where
-    go : (x : Found) (t : Bool) → lets Sealed (byte c 2) ≡ t → (tried_if Sealed x c ≡ tried_if Unsealed x c) ⊎ (tried_if Sealed x c ≡ Refused 16)
-    go F.Nothing t e = inl refl
-    go (F.Rule r) true e = inl (rw e refl)
-    go (F.Rule r) false e = inr (rw e refl)
+    go : (x : Option Rule) (t : Bool) → lets Sealed (byte c 2) ≡ t → (tried_if Sealed x c ≡ tried_if Unsealed x c) ⊎ (tried_if Sealed x c ≡ Refused 16)
+    go None t e = inl refl
+    go (Some r) true e = inl (rw e refl)
+    go (Some r) false e = inr (rw e refl)
 
 -- ---- by what the command does
 
@@ -90,7 +89,7 @@ unfolding all among commands lets
 commands_by_act = refl
 
 -- the code's test is the definition's
-pub lets_by_act : (s : Switch) (k : ℕ) (r : Rule) → rule_of k commands ≡ F.Rule r → lets s k ≡ lets_do s r.act
+pub lets_by_act : (s : Switch) (k : ℕ) (r : Rule) → rule_of k commands ≡ Some r → lets s k ≡ lets_do s r.act
 unfolding lets
 lets_by_act Unsealed k r h = refl
 lets_by_act Sealed k r h = go r.act (found_tested by_act k r commands commands_by_act h)
@@ -101,7 +100,7 @@ lets_by_act Sealed k r h = go r.act (found_tested by_act k r commands commands_b
     go (Store n) e = not-true (lets Sealed k) e
 
 -- so a body for this address, with a rule, is tried or refused 16
-pub switched : (s : Switch) (a : ℕ) (c : List ℕ) (r : Rule) → byte c 1 ≡ a → rule_of (byte c 2) commands ≡ F.Rule r
+pub switched : (s : Switch) (a : ℕ) (c : List ℕ) (r : Rule) → byte c 1 ≡ a → rule_of (byte c 2) commands ≡ Some r
     → (b : Bool) → lets_do s r.act ≡ b → cond b (tried r c) (Refused 16) ≡ recognised s a c
 unfolding recognised sought judged
 switched s a c r mine found b h = rw (eq-eqb _ _ mine, found, lets_by_act s (byte c 2) r found, h)

@@ -6,10 +6,10 @@ use mathlib.Core.Bool.{Bool, true, false, cond, ◌||◌}
 use Prim.Native.Nat.{ℕ}
 use lib.Dec.{eqb}
 use borrow.Author.Tests.{ne_eqb}
+use Rattle.std.specs.Prelude.{Option, Some, None}
 use Rattle.laws.specs.Checks.{all}
 use Rattle.laws.proofs.Tests.{never}
-use Rattle.rules.specs.declared.rule.Found.{Found}
-use Rattle.rules.specs.declared.rule.Found.TheVariants as F
+use Rattle.rules.specs.declared.rule.Rule.{Rule}
 use Rattle.rules.specs.declared.rule.Values.{Values}
 use Rattle.rules.specs.declared.rule.Values.TheVariants as V'
 use Rattle.rules.specs.Rules.{byte, values_ok, commands}
@@ -44,6 +44,6 @@ others_unjudged c g h i j = go (rule_for c) refl
     by V'.Mode e = absurd (none e)
     by V'.Clock e = absurd (none e)
 
-    go : (x : Found) → rule_for c ≡ x → if_found x (λ r. values_ok r.values c) ≡ true
-    go F.Nothing e = refl
-    go (F.Rule r) e = by r.values (found_tested (λ k x. by_four k x.values) (byte c 2) r commands commands_by_four e)
+    go : (x : Option Rule) → rule_for c ≡ x → if_found x (λ r. values_ok r.values c) ≡ true
+    go None e = refl
+    go (Some r) e = by r.values (found_tested (λ k x. by_four k x.values) (byte c 2) r commands commands_by_four e)

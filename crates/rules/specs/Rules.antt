@@ -1,16 +1,14 @@
 -- The fourteen commands of document 01 ("Commands"), a rule each, and what the fields of a rule mean. `c` is a body without its checksum. Its
 -- bytes are counted from 1, the address being byte 1, as document 01 and 001's layouts count them. Assumes nothing.
 use Rattle.std.specs.Prelude.{List, [], ◌∷◌, Bool, true, cond, ◌&&◌, ◌||◌, ℕ, zero, suc, ◌+◌, ◌-◌, ◌*◌, ◌%◌, length, get_or, drop, leb, eqb, ℤ, pos, ◌-ℤ◌}
+use Rattle.std.specs.Prelude.{Option, Some, None}
 use Rattle.std.specs.Int.Signed.{lt_z}
 use Rattle.laws.specs.Checks.{within}
+use Rattle.image.specs.declared.cell.Cell.{Cell}
 use Rattle.image.specs.declared.cell.Cell.TheVariants as Cells
-use Rattle.image.specs.declared.cell.Named.{Named}
-use Rattle.image.specs.declared.cell.Named.TheVariants as Named'
 use Rattle.image.specs.Cell.{when, constants_named, errors_named, table_named, part_named}
 use Rattle.rules.specs.declared.rule.Act.{Act}
 use Rattle.rules.specs.declared.rule.Act.TheVariants.{Show, Sign, Store}
-use Rattle.rules.specs.declared.rule.Found.{Found}
-use Rattle.rules.specs.declared.rule.Found.TheVariants as F
 use Rattle.rules.specs.declared.rule.Long.{Long}
 use Rattle.rules.specs.declared.rule.Long.TheVariants.{Is, Rowed}
 use Rattle.rules.specs.declared.rule.Names.{Names}
@@ -35,13 +33,13 @@ long_ok Rowed n = rowed n
 -- ---- what the body names: check 10
 
 -- 62's count byte must be k, of the 4 + 3k bytes before the checksum
-unfoldable pub rows_named : List ℕ → Named
+unfoldable pub rows_named : List ℕ → Option Cell
 rows_named c = when (within 1 8 (byte c 3) && eqb (4 + 3 * byte c 4) (length c)) (Cells.Errors (byte c 3 - 1))
 
-abbrev pub named_by : Names → List ℕ → Named
-named_by N.Mask c = Named'.Cell Cells.Mask
-named_by N.Mode c = Named'.Cell Cells.Mode
-named_by N.Clock c = Named'.Cell Cells.Clock
+abbrev pub named_by : Names → List ℕ → Option Cell
+named_by N.Mask c = Some Cells.Mask
+named_by N.Mode c = Some Cells.Mode
+named_by N.Clock c = Some Cells.Clock
 named_by N.Channel c = constants_named (byte c 3)
 named_by N.TablePart c = part_named (byte c 3) (byte c 4)
 named_by N.WholeTable c = table_named (byte c 3)
@@ -123,6 +121,6 @@ commands =
     ∷ []
 
 -- the rule of a command, if the block serves it
-unfoldable pub rule_of : ℕ → List Command → Found
-rule_of k [] = F.Nothing
-rule_of k (l ∷ ls) = cond (eqb l.number k) (F.Rule l.rule) (rule_of k ls)
+unfoldable pub rule_of : ℕ → List Command → Option Rule
+rule_of k [] = None
+rule_of k (l ∷ ls) = cond (eqb l.number k) (Some l.rule) (rule_of k ls)

@@ -1,31 +1,27 @@
 -- What a body is found to be: checks 7 to 11 of document 01 ("Refusal numbers"), and check 16 of document 02 (request 11), which comes after 8 and
 -- before 9. Assumes nothing.
-use Rattle.std.specs.Prelude.{List, [], ◌∷◌, Bool, true, false, ℕ, ◌+◌, length, eqb}
+use Rattle.std.specs.Prelude.{List, [], ◌∷◌, Bool, true, false, ℕ, ◌+◌, length, eqb, Option, Some, None}
 use Rattle.laws.specs.Checks.{check, judged}
-use Rattle.image.specs.declared.cell.Named.{Named}
-use Rattle.image.specs.declared.cell.Named.TheVariants as Named'
-use Rattle.rules.specs.declared.rule.Found.{Found}
-use Rattle.rules.specs.declared.rule.Found.TheVariants as Found'
+use Rattle.image.specs.declared.cell.Cell.{Cell}
 use Rattle.rules.specs.declared.rule.Rule.{Rule}
 use Rattle.rules.specs.declared.switch.Switch.{Switch}
-use Rattle.rules.specs.declared.verdict.Verdict.{Verdict}
-use Rattle.rules.specs.declared.verdict.Verdict.TheVariants.{Refused, Accepted}
+use Rattle.rules.specs.Order.{Verdict, Refused, Accepted}
 use Rattle.rules.specs.Rules.{Command, byte, long_ok, named_by, values_ok, commands, rule_of}
 use Rattle.rules.specs.Seal.{lets}
 
 -- check 10 is that the body names something; then the values, check 11
-abbrev pub tried_on : Rule → Named → List ℕ → Verdict
-tried_on r Named'.Nothing c = Refused 10
-tried_on r (Named'.Cell d) c = judged Refused (check 11 (values_ok r.values c) ∷ []) (Accepted r.echo r.act d)
+abbrev pub tried_on : Rule → Option Cell → List ℕ → Verdict
+tried_on r None c = Refused 10
+tried_on r (Some d) c = judged Refused (check 11 (values_ok r.values c) ∷ []) (Accepted r.echo r.act d)
 
 -- check 9 comes before them
 unfoldable pub tried : Rule → List ℕ → Verdict
 tried r c = judged Refused (check 9 (long_ok r.long (length c + 1)) ∷ []) (tried_on r (named_by r.names c) c)
 
 -- check 8: the block serves the command; then check 16: the switch lets it, of whatever length and values
-abbrev pub tried_if : Switch → Found → List ℕ → Verdict
-tried_if s Found'.Nothing c = Refused 8
-tried_if s (Found'.Rule r) c = judged Refused (check 16 (lets s (byte c 2)) ∷ []) (tried r c)
+abbrev pub tried_if : Switch → Option Rule → List ℕ → Verdict
+tried_if s None c = Refused 8
+tried_if s (Some r) c = judged Refused (check 16 (lets s (byte c 2)) ∷ []) (tried r c)
 
 unfoldable pub sought : Switch → List Command → List ℕ → Verdict
 sought s ls c = tried_if s (rule_of (byte c 2) ls) c
@@ -41,20 +37,20 @@ verdict_number (Accepted e a d) = 0
 
 -- ---- checks 8 to 11 as tests of their own: 9 to 11 ask nothing where 8 fails, since there is no rule to ask by. Check 16 is `lets`
 
-abbrev pub is_found : Found → Bool
-is_found Found'.Nothing = false
-is_found (Found'.Rule r) = true
+abbrev pub is_found : Option Rule → Bool
+is_found None = false
+is_found (Some r) = true
 
-abbrev pub is_named : Named → Bool
-is_named Named'.Nothing = false
-is_named (Named'.Cell d) = true
+abbrev pub is_named : Option Cell → Bool
+is_named None = false
+is_named (Some d) = true
 
 -- a test by the rule of the body's command, if there is one
-abbrev pub if_found : Found → (Rule → Bool) → Bool
-if_found Found'.Nothing t = true
-if_found (Found'.Rule r) t = t r
+abbrev pub if_found : Option Rule → (Rule → Bool) → Bool
+if_found None t = true
+if_found (Some r) t = t r
 
-abbrev pub rule_for : List ℕ → Found
+abbrev pub rule_for : List ℕ → Option Rule
 rule_for c = rule_of (byte c 2) commands
 
 -- check 8: the command is served

@@ -2,11 +2,13 @@
 #![tactic(auto)]
 
 mod names;
+mod order;
 mod rule;
 mod switch;
 mod values;
 mod verdict;
 
-pub use rule::{Act, Found, Long, Names, Rule, Values, rule_of};
+pub use order::Order;
+pub use rule::{Act, Long, Names, Rule, Values, rule_of};
 pub use switch::Switch;
-pub use verdict::{Verdict, recognise};
+pub use verdict::recognise;

@@ -6,7 +6,7 @@ ghost use Rattle.rules.specs.Rules.{commands, rule_of};
 #[derive(Clone, Copy)]
 pub enum Long {
     Is(usize),
-    // 5 + 3k, k from 1 to 21
+    // 5 + 3k, k from 1 to 21: no missing length, so that this is no option
     Rowed,
 }
 
@@ -52,70 +52,65 @@ pub struct Rule {
     pub act: Act,
 }
 
-#[derive(Clone, Copy)]
-pub enum Found {
-    Nothing,
-    Rule(Rule),
-}
-
-// The rule of a command, if the block serves it.
-pub fn rule_of(command: u8) -> Found
+// The rule of a command, if the block serves it. A match and no table of rules: a table is laid on the stack at each call.
+#[tactic(auto, unfolding(crate::specs::Rules::rule_of, crate::specs::Rules::commands))]
+pub fn rule_of(command: u8) -> Option<Rule>
     ensures { result ≡ rule_of command commands }
 {
     match command {
-        50 => shows(3, Names::Mask, 0),
-        51 => stores(Long::Is(4), Names::Mask, Values::Anything, 1, 2),
-        53 => stores(Long::Is(87), Names::Channel, Values::Constants, 0, 3),
-        54 => shows(4, Names::Channel, 1),
-        55 => signs(Names::Channel),
-        59 => stores(Long::Is(133), Names::TablePart, Values::Anything, 2, 4),
-        60 => shows(5, Names::TablePart, 2),
-        61 => signs(Names::WholeTable),
-        62 => stores(Long::Rowed, Names::ErrorRows, Values::Rows, 1, 3),
-        63 => shows(4, Names::ErrorTable, 1),
-        64 => signs(Names::ErrorTable),
-        76 => stores(Long::Is(4), Names::Mode, Values::Mode, 1, 2),
-        77 => stores(Long::Is(12), Names::Clock, Values::Clock, 0, 2),
-        78 => shows(3, Names::Clock, 0),
-        _ => Found::Nothing,
+        50 => Some(shows(3, Names::Mask, 0)),
+        51 => Some(stores(Long::Is(4), Names::Mask, Values::Anything, 1, 2)),
+        53 => Some(stores(Long::Is(87), Names::Channel, Values::Constants, 0, 3)),
+        54 => Some(shows(4, Names::Channel, 1)),
+        55 => Some(signs(Names::Channel)),
+        59 => Some(stores(Long::Is(133), Names::TablePart, Values::Anything, 2, 4)),
+        60 => Some(shows(5, Names::TablePart, 2)),
+        61 => Some(signs(Names::WholeTable)),
+        62 => Some(stores(Long::Rowed, Names::ErrorRows, Values::Rows, 1, 3)),
+        63 => Some(shows(4, Names::ErrorTable, 1)),
+        64 => Some(signs(Names::ErrorTable)),
+        76 => Some(stores(Long::Is(4), Names::Mode, Values::Mode, 1, 2)),
+        77 => Some(stores(Long::Is(12), Names::Clock, Values::Clock, 0, 2)),
+        78 => Some(shows(3, Names::Clock, 0)),
+        _ => None,
     }
 }
 
 // A command that shows takes bodies of one length and judges no value.
-fn shows(n: usize, names: Names, echo: usize) -> Found
-    ensures { result ≡ Found.Rule (record { long = Long.Is n; names = names; values = Values.Anything; echo = echo; act = Act.Show }) }
+fn shows(n: usize, names: Names, echo: usize) -> Rule
+    ensures { result ≡ record { long = Long.Is n; names = names; values = Values.Anything; echo = echo; act = Act.Show } }
 {
-    Found::Rule(Rule {
+    Rule {
         long: Long::Is(n),
         names,
         values: Values::Anything,
         echo,
         act: Act::Show,
-    })
+    }
 }
 
 // One that signs takes the number of an item alone, and echoes it.
-fn signs(names: Names) -> Found
-    ensures { result ≡ Found.Rule (record { long = Long.Is 4; names = names; values = Values.Anything; echo = 1; act = Act.Sign }) }
+fn signs(names: Names) -> Rule
+    ensures { result ≡ record { long = Long.Is 4; names = names; values = Values.Anything; echo = 1; act = Act.Sign } }
 {
-    Found::Rule(Rule {
+    Rule {
         long: Long::Is(4),
         names,
         values: Values::Anything,
         echo: 1,
         act: Act::Sign,
-    })
+    }
 }
 
 // One that stores does so from an index of the body on.
-fn stores(long: Long, names: Names, values: Values, echo: usize, from: usize) -> Found
-    ensures { result ≡ Found.Rule (record { long = long; names = names; values = values; echo = echo; act = Act.Store from }) }
+fn stores(long: Long, names: Names, values: Values, echo: usize, from: usize) -> Rule
+    ensures { result ≡ record { long = long; names = names; values = values; echo = echo; act = Act.Store from } }
 {
-    Found::Rule(Rule {
+    Rule {
         long,
         names,
         values,
         echo,
         act: Act::Store(from),
-    })
+    }
 }

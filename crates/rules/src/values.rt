@@ -1,44 +1,47 @@
 // Which values a command takes.
-ghost use Rattle.std.specs.Prelude.{◌≡◌, ◌≤◌, length, drop};
+ghost use Rattle.std.specs.Prelude.{◌≡◌, ◌≤◌, length, drop, eqb};
 ghost use Rattle.std.specs.Int.Signed.{lt_z};
-ghost use Rattle.laws.specs.Checks.{within};
+ghost use Rattle.laws.specs.Checks.{within, all};
 ghost use Rattle.rules.specs.Rules.{blank, degrees, rises, constants_ok, clock_ok, mode_ok, values_ok};
 
 use crate::names::byte;
 use crate::rule::Values;
 
+#[tactic(auto, unfolding(laws::specs::Checks::within))]
 fn is_within(low: u8, high: u8, x: u8) -> bool
     ensures { result ≡ within low high x }
 {
-    (low <= x) & (x <= high)
+    (low..=high).contains(&x)
 }
 
-// Bytes from..to of a body that has them are all 0. The loop goes on once one is not, so that the compiler can take several at a time.
-fn all_zero(body: &[u8], from: usize, to: usize) -> bool
-    requires { (1 ≤ from) × (to ≤ length body.now) }
-    ensures { result ≡ blank body.now from to }
+// What a body has from an index on.
+fn behind(body: &[u8], at: usize) -> &[u8]
+    ensures { result.now ≡ drop at body.now }
 {
-    let mut ok = true;
-    let mut b = from;
-    while b <= to {
-        ok = ok & (body[b - 1] == 0);
-        b += 1;
-    }
-    ok
+    body.get(at..).unwrap_or_default()
+}
+
+// A fold, since `all` stops at the first byte that is not 0: going on, the compiler can take several at a time.
+fn all_zero(bytes: &[u8]) -> bool
+    ensures { result ≡ all (λ b. eqb b 0) bytes.now }
+{
+    bytes.iter().copied().fold(true, |ok, b| ok & (b == 0))
 }
 
 // Bytes from..to of a body are all 0; past its end it reads as 0. Its length is asked once and not at each byte, for the same reason.
+#[tactic(auto, using(crate::proofs::Judging::blank_kept, crate::proofs::Judging::blank_short))]
 fn is_blank(body: &[u8], from: usize, to: usize) -> bool
     requires { 1 ≤ from }
     ensures { result ≡ blank body.now from to }
 {
-    if to <= body.len() {
-        all_zero(body, from, to)
-    } else {
-        all_zero(body, from, body.len())
+    match body.get(..to) {
+        Some(kept) => all_zero(behind(kept, from - 1)),
+        None => all_zero(behind(body, from - 1)),
     }
 }
 
+// All are judged, as in `all_zero`: no early exit between them.
+#[tactic(auto, unfolding(crate::specs::Rules::constants_ok))]
 fn constants_ok(body: &[u8]) -> bool
     ensures { result ≡ constants_ok body.now }
 {
@@ -53,8 +56,8 @@ fn constants_ok(body: &[u8]) -> bool
         & is_within(1, 13, byte(body, 7))
 }
 
-// Judged from the last byte back: a body that is long enough for that one is for all, so that the compiler can ask for the length once. Bracketed as
-// the definition is.
+// Judged from the last byte back: a body that is long enough for that one is for all, so that the compiler can ask for the length once.
+#[tactic(auto, unfolding(crate::specs::Rules::clock_ok))]
 fn clock_ok(body: &[u8]) -> bool
     ensures { result ≡ clock_ok body.now }
 {
@@ -66,38 +69,39 @@ fn clock_ok(body: &[u8]) -> bool
     let hour = is_within(0, 23, byte(body, 5));
     let minute = is_within(0, 59, byte(body, 4));
     let second = is_within(0, 59, byte(body, 3));
-    second & (minute & (hour & (weekday & (day & (month & (year & rest))))))
+    second & minute & hour & weekday & day & month & year & rest
 }
 
+#[tactic(auto, unfolding(crate::specs::Rules::mode_ok))]
 fn mode_ok(body: &[u8]) -> bool
     ensures { result ≡ mode_ok body.now }
 {
-    let mode = byte(body, 3);
-    (mode == 0) | (mode == 255)
+    matches!(byte(body, 3), 0 | 255)
 }
 
 // Whether a means fewer degrees than b. Adding 127 and dropping the carry numbers the bytes from 0 to 255 in the order of their degrees: 81h (-127)
 // first, FFh and 00h in the middle, 80h (+128) last.
+#[tactic(auto, using(crate::proofs::Degrees::degrees_order))]
 fn is_colder(a: u8, b: u8) -> bool
     ensures { result ≡ lt_z (degrees a) (degrees b) }
 {
-    (a as u16 + 127) % 256 < (b as u16 + 127) % 256
+    a.wrapping_add(127) < b.wrapping_add(127)
 }
 
-// The temperatures rise from row to row; rows of three bytes start at byte 5.
+// The temperatures rise from row to row; rows of three bytes start at byte 5. It goes on past a row that falls, as `all_zero` does.
 fn rows_rise(body: &[u8]) -> bool
     ensures { result ≡ rises (drop 4 body.now) }
 {
     let mut ok = true;
-    let mut i = 4;
-    while i + 3 < body.len() {
-        ok = ok & is_colder(body[i], body[i + 3]);
-        i += 3;
+    let mut rows = behind(body, 4);
+    while let [upper, _, _, lower, ..] = rows {
+        ok &= is_colder(*upper, *lower);
+        rows = behind(rows, 3);
     }
     ok
 }
 
-// Check 11.
+// Check 11. A case for each kind of values and no closure kept in the rule: `rule_of` would have to return it, and no function may be handed out.
 pub(crate) fn values_ok(values: Values, body: &[u8]) -> bool
     ensures { result ≡ values_ok values body.now }
 {

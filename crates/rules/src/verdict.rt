@@ -1,60 +1,51 @@
 // What a body is found to be.
-ghost use Rattle.std.specs.Prelude.{◌≡◌, ◌≤◌, length};
+ghost use Rattle.std.specs.Prelude.{◌≡◌, ◌≤◌, length, IfOk};
+ghost use Rattle.rules.specs.Found.{verdict_by, verdict_of};
 ghost use Rattle.rules.specs.Verdict.{tried, recognised};
 
 use crate::names::{byte, long_ok, named_by};
-use crate::rule::{Act, Found, Rule, rule_of};
-use crate::switch::{Switch, lets_do};
+use crate::order::Order;
+use crate::rule::{Rule, rule_of};
+use crate::switch::Switch;
 use crate::values::values_ok;
-use image::{Cell, Named};
+use image::Cell;
+use output::Refusal;
 
-// Refused by a number; or accepted: how many data bytes the reply echoes, what is done, and with which stretch.
-#[derive(Clone, Copy)]
-pub enum Verdict {
-    Refused(u8),
-    Accepted(usize, Act, Cell),
-}
-
-// Checks 9 to 11, by a command's rule.
-fn tried(rule: Rule, body: &[u8]) -> Verdict
+// Checks 9 to 11, by a command's rule: the cell that it is done with.
+#[tactic(auto, unfolding(crate::specs::Verdict::tried, laws::specs::Checks::judged))]
+fn tried(rule: Rule, body: &[u8]) -> Result<Cell, Refusal>
     requires { length body.now ≤ 132 }
-    ensures { result ≡ tried rule body.now }
+    ensures { verdict_by rule result ≡ tried rule body.now }
 {
-    let long = rule.long;
-    if !long_ok(long, body.len() + 1) {
-        return Verdict::Refused(9);
+    if !long_ok(rule.long, body.len() + 1) {
+        return Err(Refusal::BodyLength);
     }
-    let names = rule.names;
-    match named_by(names, body) {
-        Named::Nothing => Verdict::Refused(10),
-        Named::Cell(cell) => {
-            let values = rule.values;
-            if !values_ok(values, body) {
-                return Verdict::Refused(11);
-            }
-            let echo = rule.echo;
-            let act = rule.act;
-            Verdict::Accepted(echo, act, cell)
-        }
+    let cell = named_by(rule.names, body).ok_or(Refusal::Place)?;
+    if !values_ok(rule.values, body) {
+        return Err(Refusal::Value);
     }
+    Ok(cell)
 }
 
 // Checks 7 to 11, and 16 behind 8: what a block of an address finds a body, without its checksum, to be as its key switch stands.
-pub fn recognise(body: &[u8], address: u8, switch: Switch) -> Verdict
+#[tactic(auto, using(crate::proofs::Sealing::lets_by_act), unfolding(crate::specs::Verdict::recognised, crate::specs::Verdict::sought, laws::specs::Checks::judged))]
+pub fn recognise<'a>(body: &'a [u8], address: u8, switch: Switch) -> Result<Order<'a>, Refusal>
     requires { length body.now ≤ 132 }
-    ensures { result ≡ recognised switch address body.now }
+    ensures verdict { verdict_of result ≡ recognised switch address body.now }
+    ensures body { IfOk result (λ o. o.body.now ≡ body.now) }
 {
     if byte(body, 1) != address {
-        return Verdict::Refused(7);
+        return Err(Refusal::Address);
     }
-    match rule_of(byte(body, 2)) {
-        Found::Nothing => Verdict::Refused(8),
-        Found::Rule(rule) => {
-            let act = rule.act;
-            if !lets_do(switch, act) {
-                return Verdict::Refused(16);
-            }
-            tried(rule, body)
-        }
+    let rule = rule_of(byte(body, 2)).ok_or(Refusal::Command)?;
+    if !switch.lets_do(rule.act) {
+        return Err(Refusal::Sealed);
     }
+    let cell = tried(rule, body)?;
+    Ok(Order {
+        echo: rule.echo,
+        act: rule.act,
+        cell,
+        body,
+    })
 }

@@ -8,13 +8,13 @@ use Prim.Native.Nat.{ℕ, ◌+◌, ◌%◌, ◌≤◌}
 use native.Mathlib.Omega.{arith}
 use lib.ListN.{length, get_or}
 use borrow.Author.Tests.{ltb-true}
+use Rattle.std.specs.Prelude.{Option}
 use Rattle.laws.specs.Bytes.{slice, lay, padded, sum_of, word_at}
 use Rattle.laws.specs.Checks.{all}
 use Rattle.laws.proofs.Tests.{all_of}
 use Rattle.laws.proofs.Bytes.{In, Disjoint, length-lay, lay_swap, length-padded, slice-same}
 use Rattle.image.specs.declared.cell.Cell.{Cell}
 use Rattle.image.specs.declared.cell.Cell.TheVariants.{Errors}
-use Rattle.image.specs.declared.cell.Signed.{Signed}
 use Rattle.image.specs.declared.version.Version.{Version}
 use Rattle.image.specs.declared.version.Version.TheVariants.{V1, V2}
 use Rattle.image.specs.Version.{image_length}
@@ -61,7 +61,7 @@ module _ (v : Version) (m : List ℕ) (long : length m ≡ image_length v) (d : 
 
 module _ (d : Cell) (cell : is_cell d ≡ true) (e : Cell) (item : is_item e ≡ true) (out : ¬ Memᴰ d (cells_of e)) where
   -- its word is not among those that change along with the cell
-  word_apart : {x : Signed} → Counts d x → (i : ℕ) → Counted e i → (j : ℕ) → In (kept_offset i) 2 j → ¬ Own (amending x (bits d)) j
+  word_apart : {x : Option ℕ} → Counts d x → (i : ℕ) → Counted e i → (j : ℕ) → In (kept_offset i) 2 j → ¬ Own (amending x (bits d)) j
   word_apart (nowhere a) i b j p w = let z = bits_below d j cell w in omega arith
   word_apart (in_word k a) i b j p (inl w) =
       let same : k ≡ i = omega arith in
@@ -77,7 +77,7 @@ module _ (m : List ℕ) (long : length m ≡ image_length V2) (d : Cell) (bs : L
       byte_stays V2 d bs fit m long j (λ a. (placed V2 d fit.cell).words j a (kept_words i (b.is item).0 j p))
       (word_apart d fit.cell e item out (counts_view d) i b j p)
 
-  word_stays : {y : Signed} → Counts e y → word_kept y (stored V2 d bs m) ≡ word_kept y m
+  word_stays : {y : Option ℕ} → Counts e y → word_kept y (stored V2 d bs m) ≡ word_kept y m
   unfolding word_at
   word_stays (nowhere a) = refl
   word_stays (in_word i b) = rw (kept_byte i b (kept_offset i) (omega arith, omega arith), kept_byte i b (kept_offset i + 1) (omega arith, omega arith))

@@ -7,13 +7,12 @@ use Prim.Native.Nat.{ℕ, ◌+◌, ◌-◌, ◌*◌, ◌/◌, ◌%◌, ◌≤◌
 use native.Mathlib.Decide.{ℕ_discrete}
 use native.Mathlib.Omega.{arith}
 use lib.ListN.{length}
+use Rattle.std.specs.Prelude.{Option, Some, None}
 use Rattle.laws.specs.Bytes.{slice, lay, padded, sum_of, word_at}
 use Rattle.laws.proofs.Tests.{all_of}
 use Rattle.laws.proofs.Bytes.{Bytes, In, length-lay, slice-same, length-padded, word_two, word_out}
 use Rattle.laws.proofs.Sums.{sum_laid}
 use Rattle.image.specs.declared.cell.Cell.{Cell}
-use Rattle.image.specs.declared.cell.Signed.{Signed}
-use Rattle.image.specs.declared.cell.Signed.TheVariants.{Nowhere, At}
 use Rattle.image.specs.declared.version.Version.{Version}
 use Rattle.image.specs.declared.version.Version.TheVariants.{V1, V2}
 use Rattle.image.specs.Version.{image_length}
@@ -37,9 +36,9 @@ unfolding word_at
 signature_word_lem V1 d m b = sum_word d m
 signature_word_lem V2 d m b = go (signature_word d)
   where
-    go : (x : Signed) → word_kept x m < 65536
-    go Nowhere = omega arith
-    go (At o) = omega (arith, b o, b (o + 1))
+    go : (x : Option ℕ) → word_kept x m < 65536
+    go None = omega arith
+    go (Some o) = omega (arith, b o, b (o + 1))
 
 -- ---- an item that holds the stored cell
 
@@ -88,7 +87,7 @@ module _ (m : List ℕ) (long : length m ≡ image_length V2) (d : Cell) (bs : L
   come = padded (size d) bs
 
   -- where the word stands no byte of the cell lies, and no bit
-  own_word : (i : ℕ) → Counted e i → signature_word d ≡ At (kept_offset i)
+  own_word : (i : ℕ) → Counted e i → signature_word d ≡ Some (kept_offset i)
       → word_at (touched_all gone come (amending (signature_word d) (bits d)) (lay m (offset d) come)) (kept_offset i) ≡ amended gone come (word_at m (kept_offset i))
   own_word i b same =
       let o = kept_offset i in
@@ -97,7 +96,7 @@ module _ (m : List ℕ) (long : length m ≡ image_length V2) (d : Cell) (bs : L
       (λ j p a. (placed V2 d fit.cell).words j (a.0, rw (length-padded (size d) bs fit.room) at a.1) (kept_words i (b.is item).0 j p)) in
       let apart : (j : ℕ) → In o 2 j → ¬ Own (bits d) j = (λ j p w. let z = bits_below d j fit.cell w in omega arith) in
       let room : o + 2 ≤ length under = omega (arith, (b.is item).0, length-lay m (offset d) come, long) in
-      ap (λ (x : Signed). word_at (touched_all gone come (amending x (bits d)) under) o) same
+      ap (λ (x : Option ℕ). word_at (touched_all gone come (amending x (bits d)) under) o) same
       ∙ touched_word gone come (bits d) (touched gone come (amend_at o) under) o (apart o (omega arith, omega arith)) (apart (o + 1) (omega arith, omega arith))
       ∙ word_two under o (amended gone come (word_at under o)) room
       ∙ ap (amended gone come) (word_out m (offset d) come o (off o (omega arith, omega arith)) (off (o + 1) (omega arith, omega arith)))
@@ -106,7 +105,7 @@ module _ (m : List ℕ) (long : length m ≡ image_length V2) (d : Cell) (bs : L
   unfolding stored
   word_amended = go (counts_view e) (holds e item has).word
     where
-      go : {y : Signed} → Counts e y → signature_word d ≡ y → word_kept y (stored V2 d bs m) ≡ amended gone come (word_kept y m)
+      go : {y : Option ℕ} → Counts e y → signature_word d ≡ y → word_kept y (stored V2 d bs m) ≡ amended gone come (word_kept y m)
       go (nowhere a) same = absurd (a item)
       go (in_word i b) same = own_word i b same
 
@@ -119,7 +118,7 @@ held? d e cell item = go (counts_view d) (counts_view e) (λ k. ap place (holds 
     by i j a b f (yes s) = let whole : item_at i ≡ e = ap item_at s ∙ (b.is item).1 in yes (rw whole at (a.held cell).1)
     by i j a b f (no n) = no (λ k. n (omega (arith, f k)))
 
-    go : {x y : Signed} → Counts d x → Counts e y → (Memᴰ d (cells_of e) → place x ≡ place y) → Dec (Memᴰ d (cells_of e))
+    go : {x y : Option ℕ} → Counts d x → Counts e y → (Memᴰ d (cells_of e) → place x ≡ place y) → Dec (Memᴰ d (cells_of e))
     go x (nowhere b) f = absurd (b item)
     go (nowhere a) (in_word j b) f = no (λ k. let z : ⊥ = omega (arith, f k) in z)
     go (in_word i a) (in_word j b) f = by i j a b f (ℕ_discrete i j)

@@ -1,43 +1,26 @@
 -- What the code of storing and signing cites: the bytes it reads and lays lie in the image, and are those of the definitions. Assumes nothing.
 use mathlib.Core.Path.{◌≡◌, refl, sym, ap, ◌∙◌}
-use mathlib.Core.Logic.{◌⊎◌, inl, inr}
+use mathlib.Core.Logic.{inl, inr}
 use mathlib.Core.Bool.{true}
-use mathlib.Core.List.{List, [], ◌∷◌}
+use mathlib.Core.List.{List, []}
 use Prim.Native.Nat.{ℕ, ◌+◌, ◌-◌, ◌%◌, ◌≤◌}
 use native.Mathlib.Omega.{arith}
-use types.Run.{OneOf, miss}
-use denote.Enum.Declared.{tag_of}
-use lib.ListN.{length, take, drop, length-take}
+use lib.ListN.{length, take, drop}
+use Rattle.std.specs.Prelude.{Option, Some, None}
 use Rattle.laws.specs.Bytes.{slice, lay, zeros, padded, sum_of, two, word_at}
 use Rattle.laws.proofs.Bytes.{lay_trans, slice_is, length-padded}
 use Rattle.laws.proofs.Sums.{sum-padded}
 use Rattle.image.specs.declared.cell.Cell.{Cell}
-use Rattle.image.specs.declared.cell.Cell.TheVariants.{Mask, Mode, Clock, Constants, Errors, Part, Table}
-use Rattle.image.specs.declared.cell.Signed.{Signed}
-use Rattle.image.specs.declared.cell.Signed.TheVariants.{Nowhere, At}
 use Rattle.image.specs.declared.version.Version.TheVariants.{V2}
-use Rattle.image.specs.Version.{current, image_length}
-use Rattle.image.specs.Cell.{offset, size, is_cell, is_item}
+use Rattle.image.specs.Version.{current}
+use Rattle.image.specs.Cell.{offset, size, is_cell}
 use Rattle.image.specs.Words.{signature_word}
-use Rattle.image.proofs.Cells.{placed}
-use Rattle.image.specs.contracts.cell.Cell.{the_type}
-use Rattle.image.proofs.Kept.{place, place_inside}
 use Rattle.storing.specs.Stored.{Touch, touched_all, bits, amending, stored}
 use Rattle.storing.proofs.Touches.{Own, touched-lay, Bit, no_bit, part-bit, bit_view, amend_first, no_touch_in_cell}
 
 -- ---- a part's bit
 
--- a match's last arm knows the tag alone; a part has tag 5
-pub untouched : (d : Cell) (m : List ℕ) → OneOf (0 ∷ 1 ∷ 2 ∷ 3 ∷ 4 ∷ 6 ∷ []) (tag_of the_type d) → m ≡ touched_all [] [] (bits d) m
-untouched Mask m h = refl
-untouched Mode m h = refl
-untouched Clock m h = refl
-untouched (Constants c) m h = refl
-untouched (Errors e) m h = refl
-untouched (Part k p) m h = absurd (miss (0 ∷ 1 ∷ 2 ∷ 3 ∷ 4 ∷ 6 ∷ []) 5 tt h)
-untouched (Table k) m h = refl
-
--- it is set whatever the cell's bytes were and are
+-- it is set, whatever the cell's bytes were and are
 bits_alone : (old new : List ℕ) (d : Cell) (m : List ℕ) → touched_all [] [] (bits d) m ≡ touched_all old new (bits d) m
 bits_alone old new d m = go (bit_view d)
   where
@@ -47,18 +30,11 @@ bits_alone old new d m = go (bit_view d)
 
 -- ---- the word of a signature
 
--- where code finds it
-pub word_found : (d : Cell) {x : Signed} {o : ℕ} → x ≡ signature_word d → x ≡ At o → signature_word d ≡ At o
-word_found d is at = sym is ∙ at
-
-pub word_room : (d : Cell) {o : ℕ} → signature_word d ≡ At o → (is_cell d ≡ true) ⊎ (is_item d ≡ true) → o + 2 ≤ image_length current
-word_room d e h = omega (arith, place_inside d h, ap place e)
-
 -- sums that code has by their remainders
 by_remainders : (w a b : ℕ) → (w + (65536 - a % 65536) + b % 65536) % 65536 ≡ (w + (65536 - a % 65536) + b) % 65536
 by_remainders w a b = omega arith
 
-module _ (d : Cell) (m bytes : List ℕ) {o a n : ℕ} (found : signature_word d ≡ At o) (a-is : a ≡ offset d) (n-is : n ≡ size d) where
+module _ (d : Cell) (m bytes : List ℕ) {o a n : ℕ} (found : signature_word d ≡ Some o) (a-is : a ≡ offset d) (n-is : n ≡ size d) where
   abbrev there : List ℕ
   there = take (a + n - a) (drop a m)
 
@@ -71,10 +47,10 @@ module _ (d : Cell) (m bytes : List ℕ) {o a n : ℕ} (found : signature_word d
 
 -- ---- the signature that the cell counts in
 
-own_first : (x : Signed) (ts : List Touch) (i : ℕ) → Own (amending x []) i → Own (amending x ts) i
-own_first Nowhere ts i w = absurd w
-own_first (At o) ts i (inl w) = inl w
-own_first (At o) ts i (inr w) = absurd w
+own_first : (x : Option ℕ) (ts : List Touch) (i : ℕ) → Own (amending x []) i → Own (amending x ts) i
+own_first None ts i w = absurd w
+own_first (Some o) ts i (inl w) = inl w
+own_first (Some o) ts i (inr w) = absurd w
 
 -- bytes that are laid in the cell may come before or after
 amend_early : (old new : List ℕ) (d : Cell) (m bs : List ℕ) → is_cell d ≡ true → length bs ≡ size d
@@ -84,12 +60,6 @@ amend_early old new d m bs h n =
     (λ i a w. no_touch_in_cell V2 d d h h i (a.0, rw n at a.1) (own_first (signature_word d) (bits d) i w))
 
 -- ---- the cell's bytes
-
-pub store_room : (d : Cell) → is_cell d ≡ true → {a : ℕ} → a ≡ offset d → a + size d ≤ image_length current
-store_room d h a-is = omega (arith, (placed current d h).high)
-
-pub store_few : (d : Cell) (m : List ℕ) → is_cell d ≡ true → {a n : ℕ} → a ≡ offset d → n ≡ size d → length (take (a + n - a) (drop a m)) ≤ 65536
-store_few d m h {a} {n} a-is n-is = omega (arith, store_room d h a-is, length-take (a + n - a) (drop a m))
 
 module _ (d : Cell) (m bytes : List ℕ) (h : is_cell d ≡ true) (few : length bytes ≤ size d) {m₀ m₁ m₂ : List ℕ} {a k n : ℕ}
     (a-is : a ≡ offset d) (n-is : n ≡ size d) (past : k ≡ a + length bytes)

@@ -7,14 +7,13 @@ use Prim.Native.Nat.{ℕ, ◌+◌, ◌-◌, ◌%◌, ◌≤◌, ◌<◌}
 use native.Mathlib.Decide.{ℕ_discrete}
 use native.Mathlib.Omega.{arith}
 use lib.ListN.{length, get_or}
+use Rattle.std.specs.Prelude.{Option, Some, None}
 use Rattle.laws.specs.Bytes.{lay, sum_of, two, word_at}
 use Rattle.laws.specs.Bits.{with_bit}
 use Rattle.laws.proofs.Bytes.{In, Disjoint, length-lay, lay_out, lay_swap, lay_over, length_two, word_two, word_out}
 use Rattle.laws.proofs.Bits.{with_bit_swap}
 use Rattle.image.specs.declared.cell.Cell.{Cell}
 use Rattle.image.specs.declared.cell.Cell.TheVariants.{Mask, Mode, Clock, Constants, Errors, Part, Table}
-use Rattle.image.specs.declared.cell.Signed.{Signed}
-use Rattle.image.specs.declared.cell.Signed.TheVariants.{Nowhere, At}
 use Rattle.image.specs.declared.version.Version.{Version}
 use Rattle.image.specs.declared.version.Version.TheVariants.{V1, V2}
 use Rattle.image.specs.Version.{image_length}
@@ -192,10 +191,10 @@ bits_below d i h w = let (k, l, a) = bits_low d i h w in omega arith
 -- ---- the signature that a cell counts in
 
 -- it is amended first
-pub amend_first : (old new : List ℕ) (x : Signed) (ts : List Touch) (m : List ℕ)
+pub amend_first : (old new : List ℕ) (x : Option ℕ) (ts : List Touch) (m : List ℕ)
     → touched_all old new (amending x ts) m ≡ touched_all old new ts (touched_all old new (amending x []) m)
-amend_first old new Nowhere ts m = refl
-amend_first old new (At o) ts m = refl
+amend_first old new None ts m = refl
+amend_first old new (Some o) ts m = refl
 
 amend_swap : (w a b c d : ℕ)
     → ((w + (65536 - a % 65536) + b) % 65536 + (65536 - c % 65536) + d) % 65536 ≡ ((w + (65536 - c % 65536) + d) % 65536 + (65536 - a % 65536) + b) % 65536
@@ -218,7 +217,7 @@ bits-off d = go (bit_view d)
     go (part-bit {k} {p}) h i = let l = (part_numbers k p h).0 in (inr (λ j x y. let z : ⊥ = omega arith in z), tt)
 
 module _ (c d : Cell) (h : is_cell c ≡ true) (g : is_cell d ≡ true) where
-  amends_agree : {x y : Signed} → Counts c x → Counts d y → AgreeAll (amending x (bits c)) (amending y (bits d))
+  amends_agree : {x y : Option ℕ} → Counts c x → Counts d y → AgreeAll (amending x (bits c)) (amending y (bits d))
   amends_agree (nowhere a) (nowhere b) = bits_agree c d
   amends_agree (nowhere a) (in_word j b) = agree_front (amend_at (kept_offset j)) (bits c) (bits d) (bits-off c h j) (bits_agree c d)
   amends_agree (in_word i a) (nowhere b) = (bits-off d g i, bits_agree c d)
@@ -239,7 +238,7 @@ touches_low V2 d i h w = go (counts_view d) w
     of_bits : Own (bits d) i → InSpans (words V2) i
     of_bits w = let (k, l, a) = bits_low d i h w in table-words V2 k l i a
 
-    go : {x : Signed} → Counts d x → Own (amending x (bits d)) i → InSpans (words V2) i
+    go : {x : Option ℕ} → Counts d x → Own (amending x (bits d)) i → InSpans (words V2) i
     go (nowhere a) w = of_bits w
     go (in_word j a) (inl w) = kept_words j (a.held h).0 i w
     go (in_word j a) (inr w) = of_bits w
@@ -291,7 +290,7 @@ room : (v : Version) (m : List ℕ) → length m ≡ image_length v → (k : ℕ
 room v m l k a = rw l (table_word_inside v k a)
 
 module _ (o n m : List ℕ) where
-  amended-after : (d : Cell) (j : ℕ) {x : Signed} → Counts d x → is_cell d ≡ true → j < 16 → length m ≡ image_length V2
+  amended-after : (d : Cell) (j : ℕ) {x : Option ℕ} → Counts d x → is_cell d ≡ true → j < 16 → length m ≡ image_length V2
       → WordAfter d j (table_word m j) (table_word (touched_all o n (amending x (bits d)) m) j)
   amended-after d j (nowhere a) h b l = bits-after o n m d j h (room V2 m l)
   amended-after d j (in_word i a) h b l =

@@ -1,9 +1,7 @@
 -- An item's signature (document 01, "Commands"), and what an image that keeps it says of it (document 02, request 7). Assumes nothing.
-use Rattle.std.specs.Prelude.{◌≡◌, List, true, ℕ, ◌+◌, ◌-◌, ◌%◌}
+use Rattle.std.specs.Prelude.{◌≡◌, List, true, ℕ, ◌+◌, ◌-◌, ◌%◌, Option, Some, None}
 use Rattle.laws.specs.Bytes.{slice, sum_of, word_at}
 use Rattle.image.specs.declared.cell.Cell.{Cell}
-use Rattle.image.specs.declared.cell.Signed.{Signed}
-use Rattle.image.specs.declared.cell.Signed.TheVariants.{Nowhere, At}
 use Rattle.image.specs.declared.version.Version.{Version}
 use Rattle.image.specs.declared.version.Version.TheVariants.{V1, V2}
 use Rattle.image.specs.Cell.{offset, size, is_item}
@@ -14,9 +12,9 @@ unfoldable pub full_sum : Cell → List ℕ → ℕ
 full_sum c m = sum_of (slice (offset c) (size c) m) % 65536
 
 -- what a kept word says, true or false
-abbrev pub word_kept : Signed → List ℕ → ℕ
-word_kept Nowhere m = 0
-word_kept (At o) m = word_at m o
+abbrev pub word_kept : Option ℕ → List ℕ → ℕ
+word_kept None m = 0
+word_kept (Some o) m = word_at m o
 
 -- version 1 adds up when it is asked; version 2 answers with the word, and no byte of the item counts
 abbrev pub signature : Version → Cell → List ℕ → ℕ

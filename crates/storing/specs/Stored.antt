@@ -1,12 +1,10 @@
 -- Storing bytes in a cell, and what changes along with it (document 01, "Cells" and "Commands"; of kept signatures document 02, request 7). Assumes
 -- nothing.
-use Rattle.std.specs.Prelude.{◌≡◌, List, [], ◌∷◌, true, ℕ, ◌+◌, ◌-◌, ◌%◌, ◌≤◌, length, get_or}
+use Rattle.std.specs.Prelude.{◌≡◌, List, [], ◌∷◌, true, ℕ, ◌+◌, ◌-◌, ◌%◌, ◌≤◌, length, get_or, Option, Some, None}
 use Rattle.laws.specs.Bytes.{slice, lay, padded, sum_of, two, word_at}
 use Rattle.laws.specs.Bits.{with_bit}
 use Rattle.image.specs.declared.cell.Cell.{Cell}
 use Rattle.image.specs.declared.cell.Cell.TheVariants as Cells
-use Rattle.image.specs.declared.cell.Signed.{Signed}
-use Rattle.image.specs.declared.cell.Signed.TheVariants.{Nowhere, At}
 use Rattle.image.specs.declared.version.Version.{Version}
 use Rattle.image.specs.declared.version.Version.TheVariants.{V1, V2}
 use Rattle.image.specs.Cell.{offset, size, extent, is_cell}
@@ -45,9 +43,9 @@ amended old new w = (w + (65536 - sum_of old % 65536) + sum_of new) % 65536
 abbrev pub amend_at : ℕ → Touch
 amend_at o = record { word = o; change = amended }
 
-abbrev pub amending : Signed → List Touch → List Touch
-amending Nowhere ts = ts
-amending (At o) ts = amend_at o ∷ ts
+abbrev pub amending : Option ℕ → List Touch → List Touch
+amending None ts = ts
+amending (Some o) ts = amend_at o ∷ ts
 
 -- all that changes along with a cell
 abbrev pub touches : Version → Cell → List Touch

@@ -3,12 +3,12 @@
 use mathlib.Core.Path.{◌≡◌, refl, sym, ap, ◌∙◌}
 use mathlib.Core.Logic.{◌≢◌}
 use mathlib.Core.List.{List, [], ◌∷◌, map}
-use mathlib.Core.Bool.{Bool, true, false, not, ◌&&◌, and-false}
+use mathlib.Core.Bool.{Bool, true, false, not, ◌&&◌}
 use Prim.Native.Nat.{ℕ, zero, suc, ◌≤◌, ◌<◌}
 use native.Mathlib.Omega.{arith}
 use lib.ListN.{length, get_or, length-map, get_or-map}
 use lib.Dec.{leb, eqb}
-use borrow.Author.Tests.{leb-true, eqb-true, eqb-false, eq-eqb, ne_eqb, not-true}
+use borrow.Author.Tests.{leb-true, eqb-true, eqb-false, eq-eqb, not-true}
 use Rattle.laws.specs.Bytes.{slice}
 use Rattle.laws.specs.Checks.{within, all, among, distinct}
 use Rattle.laws.proofs.Tests.{never, and_both, among_of}
@@ -36,23 +36,6 @@ module _ (a t : ℕ) (c : List ℕ) where
       let q = and_both _ _ p.1 in
       let r = and_both _ _ q.1 in
       record { long = eqb-true _ _ p.0; command = eqb-true _ _ q.0; address_is = eqb-true _ _ r.0; table_is = eqb-true _ _ r.1 }
-
-  -- as code asks it
-  pub other_length : length c ≢ 132 → sends a t c ≡ false
-  unfolding sends
-  other_length n = rw (ne_eqb (length c) 132 n)
-
-  pub other-command : byte c 2 ≢ 59 → sends a t c ≡ false
-  unfolding sends
-  other-command n = rw (ne_eqb (byte c 2) 59 n, and-false)
-
-  pub other-address : byte c 1 ≢ a → sends a t c ≡ false
-  unfolding sends
-  other-address n = rw (ne_eqb (byte c 1) a n, and-false, and-false)
-
-  pub by_table : length c ≡ 132 → byte c 2 ≡ 59 → byte c 1 ≡ a → sends a t c ≡ eqb (byte c 3) t
-  unfolding sends
-  by_table l k e = rw (eq-eqb (length c) 132 l, eq-eqb (byte c 2) 59 k, eq-eqb (byte c 1) a e)
 
   pub sent_if : Sent a t c → sends a t c ≡ true
   unfolding sends

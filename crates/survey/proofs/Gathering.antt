@@ -17,9 +17,10 @@ use Rattle.laws.specs.Checks.{within, all, among, distinct}
 use Rattle.laws.proofs.Tests.{never, and_both, or_either, neither, within_is}
 use Rattle.laws.proofs.Bytes.{In, length-lay, lay_out, slice-lay, slice-same, length-zeros}
 use Rattle.rules.specs.Rules.{byte}
+use Rattle.survey.specs.declared.first.First.{First}
 use Rattle.survey.specs.declared.sheet.Sheet.{Sheet}
 use Rattle.survey.specs.File.{sends, parts_in, contents_with, each_once, table_sent}
-use Rattle.survey.specs.Gather.{Gathered, gathering, is_new, strange, repeated, counted, blank, added, gathered}
+use Rattle.survey.specs.Gather.{is_new, strange, repeated, counted, blank, added, gathered}
 use Rattle.survey.proofs.Frames.{sent_is, parts_ask}
 use Rattle.survey.proofs.PartNumbers.{all_new, new_once, each_is_there}
 use Rattle.survey.proofs.Tables.{part_of, PartByPart, part_by_part}
@@ -106,87 +107,99 @@ module _ (a t : ℕ) where
           later (inl e) = absurd (n (eqb-true p (byte c 4) e))
           later (inr m) = m
 
-  -- ---- what is gathered
-
-  pub one_is : (g : Gathered) (cs : List (List ℕ)) → (gathered a t g cs).sheet.one ≡ (g.sheet.one && all (sends a t) cs)
-  unfolding gathered all added
-  one_is g [] = sym (and-true g.sheet.one)
-  one_is g (c ∷ cs) = one_is (added a t g c) cs ∙ go (sends a t c) (is_new g.sheet.parts (byte c 4)) refl refl
-    where
-      go : (b n : Bool) → sends a t c ≡ b → is_new g.sheet.parts (byte c 4) ≡ n
-          → ((added a t g c).sheet.one && all (sends a t) cs) ≡ (g.sheet.one && (sends a t c && all (sends a t) cs))
-      go true true e f = rw (e, f)
-      go true false e f = rw (e, f)
-      go false n e f = rw (e, and-false)
-
-  once_is : (g : Gathered) (cs : List (List ℕ)) → all (sends a t) cs ≡ true
-      → (gathered a t g cs).sheet.once ≡ (g.sheet.once && all_new g.sheet.parts (parts_in cs))
-  unfolding gathered all added all_new parts_in
-  once_is g [] h = sym (and-true g.sheet.once)
-  once_is g (c ∷ cs) h =
-      let p = and_both _ _ h in
-      once_is (added a t g c) cs p.1 ∙ go (is_new g.sheet.parts (byte c 4)) p.0 refl
-    where
-      go : (n : Bool) → sends a t c ≡ true → is_new g.sheet.parts (byte c 4) ≡ n
-          → ((added a t g c).sheet.once && all_new (added a t g c).sheet.parts (parts_in cs))
-          ≡ (g.sheet.once && (is_new g.sheet.parts (byte c 4) && all_new (with_bit g.sheet.parts (byte c 4 - 1)) (parts_in cs)))
-      go true e f = rw (e, f)
-      go false e f = rw (e, f, and-false)
-
-  pub strange-added : (g : Gathered) (c : List ℕ) → sends a t c ≡ false → added a t g c ≡ gathering (strange g.sheet) g.rows
-  unfolding added
-  strange-added g c s = rw s
-
-  pub repeated-added : (g : Gathered) (c : List ℕ) → sends a t c ≡ true → is_new g.sheet.parts (byte c 4) ≡ false
-      → added a t g c ≡ gathering (repeated g.sheet) g.rows
-  unfolding added
-  repeated-added g c s n = rw (s, n)
-
-  new-added : (g : Gathered) (c : List ℕ) → sends a t c ≡ true → is_new g.sheet.parts (byte c 4) ≡ true
-      → added a t g c ≡ gathering (counted g.sheet (byte c 4)) (lay g.rows (128 * (byte c 4 - 1)) (drop 4 c))
-  unfolding added
-  new-added g c s n = rw (s, n)
-
-  -- as code leaves it
-  pub new-laid : (h : Sheet) (old c rows : List ℕ) (parts : ℕ) → sends a t c ≡ true → is_new h.parts (byte c 4) ≡ true
-      → parts ≡ with_bit h.parts (byte c 4 - 1) → rows ≡ lay old (128 * (byte c 4 - 1)) (take (length c - 4) (drop 4 c))
-      → gathering (record { one = h.one; once = h.once; parts = parts }) rows ≡ added a t (gathering h old) c
-  new-laid h old c rows parts s n w r =
-      rw (w, r, take_all (length c - 4) (drop 4 c) (omega (arith, length-drop 4 c))) (sym (new-added (gathering h old) c s n))
-
-  rows_are : (g : Gathered) (cs : List (List ℕ)) → all (sends a t) cs ≡ true → all_new g.sheet.parts (parts_in cs) ≡ true
-      → (gathered a t g cs).rows ≡ laid g.rows cs
-  unfolding gathered all all_new parts_in laid
-  rows_are g [] h n = refl
-  rows_are g (c ∷ cs) h n =
-      let p = and_both (sends a t c) (all (sends a t) cs) h in
-      let q = and_both (is_new g.sheet.parts (byte c 4)) (all_new (with_bit g.sheet.parts (byte c 4 - 1)) (parts_in cs)) n in
-      let g' = gathering (counted g.sheet (byte c 4)) (lay g.rows (128 * (byte c 4 - 1)) (drop 4 c)) in
-      ap (λ (x : Gathered). (gathered a t x cs).rows) (new-added g c p.0 q.0) ∙ rows_are g' cs p.1 q.1
-
   -- ---- of a whole file
 
-  module _ (cs : List (List ℕ)) (h : all (sends a t) cs ≡ true) where
-    pub once_tells : (r : List ℕ) → (gathered a t (gathering blank r) cs).sheet.once ≡ each_once (parts_in cs)
-    once_tells r = once_is (gathering blank r) cs h ∙ new_once (parts_in cs)
+  module _ (cs : List (List ℕ)) (h : all (sends a t) cs ≡ true) (eleven : length cs ≡ 11) (once : each_once (parts_in cs) ≡ true) where
+    module _ (r : List ℕ) (long : length r ≡ 1408) where
+      laid-parts : PartByPart (laid r cs) cs
+      unfolding parts_in
+      laid-parts p a b =
+          let q = parts_ask (parts_in cs) once in
+          laid_holds r long cs (record { whole = h; inside = q.0 }) q.1 p a (each_is_there (parts_in cs) (length-map cs _ ∙ eleven) once p a b)
 
-    module _ (eleven : length cs ≡ 11) (once : each_once (parts_in cs) ≡ true) where
-      module _ (r : List ℕ) (long : length r ≡ 1408) where
-        laid-parts : PartByPart (laid r cs) cs
-        unfolding parts_in
-        laid-parts p a b =
-            let q = parts_ask (parts_in cs) once in
-            laid_holds r long cs (record { whole = h; inside = q.0 }) q.1 p a (each_is_there (parts_in cs) (length-map cs _ ∙ eleven) once p a b)
+      laid_table : laid r cs ≡ table_sent cs
+      laid_table = part_by_part (laid r cs) cs laid-parts (length-laid r cs ∙ long)
 
-        laid_table : laid r cs ≡ table_sent cs
-        laid_table = part_by_part (laid r cs) cs laid-parts (length-laid r cs ∙ long)
+    -- each part of it is that of the file
+    pub sent_by_part : PartByPart (table_sent cs) cs
+    sent_by_part p a b =
+        let r = zeros 1408 in
+        let long = length-zeros 1408 in
+        ap (part_of p) (sym (laid_table r long)) ∙ laid-parts r long p a b
 
-        pub table-gathered : (gathered a t (gathering blank r) cs).rows ≡ table_sent cs
-        table-gathered = rows_are (gathering blank r) cs h (new_once (parts_in cs) ∙ once) ∙ laid_table
+-- ---- what a frame more adds
 
-      -- each part of it is that of the file
-      pub sent_by_part : PartByPart (table_sent cs) cs
-      sent_by_part p a b =
-          let r = zeros 1408 in
-          let long = length-zeros 1408 in
-          ap (part_of p) (sym (laid_table r long)) ∙ laid-parts r long p a b
+abbrev all_sent : Sheet → List (List ℕ) → Bool
+all_sent h cs = all (sends h.first.address h.first.table) cs
+
+module _ (h : Sheet) (c : List ℕ) where
+  pub strange-added : sends h.first.address h.first.table c ≡ false → added h c ≡ strange h
+  unfolding added
+  strange-added s = rw s
+
+  module _ (s : sends h.first.address h.first.table c ≡ true) where
+    pub repeated-added : is_new h.parts (byte c 4) ≡ false → added h c ≡ repeated h
+    unfolding added
+    repeated-added n = rw (s, n)
+
+    new-added : is_new h.parts (byte c 4) ≡ true → added h c ≡ counted h c
+    unfolding added
+    new-added n = rw (s, n)
+
+    -- as code leaves it
+    pub new-laid : (rows : List ℕ) (parts : ℕ) → is_new h.parts (byte c 4) ≡ true
+        → parts ≡ with_bit h.parts (byte c 4 - 1) → rows ≡ lay h.rows (128 * (byte c 4 - 1)) (take (length c - 4) (drop 4 c))
+        → record { first = h.first; one = h.one; once = h.once; parts = parts; rows = rows } ≡ added h c
+    new-laid rows parts n w r = rw (w, r, take_all (length c - 4) (drop 4 c) (omega (arith, length-drop 4 c))) (sym (new-added n))
+
+  -- the address and the table stay the first frame's
+  same_first : (added h c).first ≡ h.first
+  unfolding added
+  same_first = go (sends h.first.address h.first.table c) (is_new h.parts (byte c 4)) refl refl
+    where
+      go : (b n : Bool) → sends h.first.address h.first.table c ≡ b → is_new h.parts (byte c 4) ≡ n → (added h c).first ≡ h.first
+      go true true e f = rw (e, f)
+      go true false e f = rw (e, f)
+      go false n e f = rw e
+
+pub one_is : (h : Sheet) (cs : List (List ℕ)) → (gathered h cs).one ≡ (h.one && all_sent h cs)
+unfolding gathered all added
+one_is h [] = sym (and-true h.one)
+one_is h (c ∷ cs) = one_is (added h c) cs ∙ rw (same_first h c) (go (sends h.first.address h.first.table c) (is_new h.parts (byte c 4)) refl refl)
+  where
+    go : (b n : Bool) → sends h.first.address h.first.table c ≡ b → is_new h.parts (byte c 4) ≡ n
+        → ((added h c).one && all_sent h cs) ≡ (h.one && (sends h.first.address h.first.table c && all_sent h cs))
+    go true true e f = rw (e, f)
+    go true false e f = rw (e, f)
+    go false n e f = rw (e, and-false)
+
+once_is : (h : Sheet) (cs : List (List ℕ)) → all_sent h cs ≡ true → (gathered h cs).once ≡ (h.once && all_new h.parts (parts_in cs))
+unfolding gathered all added all_new parts_in
+once_is h [] s = sym (and-true h.once)
+once_is h (c ∷ cs) s =
+    let p = and_both _ _ s in
+    once_is (added h c) cs (rw (same_first h c) p.1) ∙ go (is_new h.parts (byte c 4)) p.0 refl
+  where
+    go : (n : Bool) → sends h.first.address h.first.table c ≡ true → is_new h.parts (byte c 4) ≡ n
+        → ((added h c).once && all_new (added h c).parts (parts_in cs))
+        ≡ (h.once && (is_new h.parts (byte c 4) && all_new (with_bit h.parts (byte c 4 - 1)) (parts_in cs)))
+    go true e f = rw (e, f)
+    go false e f = rw (e, f, and-false)
+
+rows_are : (h : Sheet) (cs : List (List ℕ)) → all_sent h cs ≡ true → all_new h.parts (parts_in cs) ≡ true → (gathered h cs).rows ≡ laid h.rows cs
+unfolding gathered all all_new parts_in laid
+rows_are h [] s n = refl
+rows_are h (c ∷ cs) s n =
+    let p = and_both (sends h.first.address h.first.table c) (all_sent h cs) s in
+    let q = and_both (is_new h.parts (byte c 4)) (all_new (with_bit h.parts (byte c 4 - 1)) (parts_in cs)) n in
+    ap (λ (x : Sheet). (gathered x cs).rows) (new-added h c p.0 q.0) ∙ rows_are (counted h c) cs p.1 q.1
+
+-- ---- what is gathered of it, whatever the room held
+
+module _ (f : First) (cs : List (List ℕ)) (s : all (sends f.address f.table) cs ≡ true) (r : List ℕ) where
+  pub once_tells : (gathered (blank f r) cs).once ≡ each_once (parts_in cs)
+  once_tells = once_is (blank f r) cs s ∙ new_once (parts_in cs)
+
+  pub table-gathered : length cs ≡ 11 → each_once (parts_in cs) ≡ true → length r ≡ 1408 → (gathered (blank f r) cs).rows ≡ table_sent cs
+  table-gathered eleven once long =
+      rows_are (blank f r) cs s (new_once (parts_in cs) ∙ once) ∙ laid_table f.address f.table cs s eleven once r long

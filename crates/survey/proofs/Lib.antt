@@ -4,6 +4,7 @@ pub mod PartNumbers
 pub mod Tables
 pub mod Gathering
 pub mod Refusals
+pub mod Cutting
 pub mod Reading
 pub mod Checking
 pub mod Described

@@ -4,7 +4,7 @@ use mathlib.Core.Path.{◌≡◌, refl, sym, ◌∙◌}
 use mathlib.Core.Logic.{◌⊎◌, inl, inr}
 use mathlib.Core.List.{List, [], ◌∷◌}
 use mathlib.Core.Bool.{Bool, true, false, not, ◌&&◌, ◌||◌, or-true}
-use Prim.Native.Nat.{ℕ, ◌+◌, ◌-◌, ◌≤◌, ◌<◌}
+use Prim.Native.Nat.{ℕ, ◌+◌, ◌-◌, ◌≤◌}
 use native.Mathlib.Decide.{ℕ_discrete}
 use native.Mathlib.Omega.{arith}
 use lib.ListN.{length}
@@ -12,7 +12,7 @@ use lib.Dec.{eqb}
 use borrow.Author.Tests.{eqb-true, eq-eqb, ne_eqb, not-true}
 use Rattle.laws.specs.Bits.{bit, with_bit, ones_in}
 use Rattle.laws.specs.Checks.{within, all, among, distinct}
-use Rattle.laws.proofs.Tests.{never, and_both, or_either, fails, both_ways, within_is, within_in, within_below, within_above, all_among}
+use Rattle.laws.proofs.Tests.{never, and_both, or_either, fails, both_ways, within_is, within_in, all_among}
 use Rattle.laws.proofs.Bits.{bit_cases, bit-none, bit-set, bit_kept, ones_with, ones_none, all_set_is}
 use Rattle.survey.specs.File.{each_once}
 use Rattle.survey.specs.Gather.{is_new}
@@ -30,19 +30,6 @@ module _ (w p : ℕ) where
       go : (bit w (p - 1) ≡ 0) ⊎ (bit w (p - 1) ≡ 1) → eqb (bit w (p - 1)) 1 ≡ false → bit w (p - 1) ≡ 0
       go (inl e) f = e
       go (inr e) f = absurd (never (sym f ∙ eq-eqb _ 1 e))
-
-  -- as code asks it
-  pub below_1 : p < 1 → is_new w p ≡ false
-  unfolding is_new
-  below_1 l = rw (within_below 1 11 p l)
-
-  pub above_11 : 11 < p → is_new w p ≡ false
-  unfolding is_new
-  above_11 l = rw (within_above 1 11 p l)
-
-  pub by_bit : 1 ≤ p → p ≤ 11 → is_new w p ≡ not (eqb (bit w (p - 1)) 1)
-  unfolding is_new
-  by_bit a b = rw (within_in 1 11 p a b)
 
   new_if : 1 ≤ p → p ≤ 11 → bit w (p - 1) ≡ 0 → is_new w p ≡ true
   unfolding is_new

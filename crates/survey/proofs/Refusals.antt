@@ -3,8 +3,12 @@ use mathlib.Core.Path.{◌≡◌, refl, sym, ◌∙◌}
 use mathlib.Core.List.{List, [], ◌∷◌, map, Memᴰ}
 use mathlib.Core.Bool.{true, false}
 use Prim.Native.Nat.{ℕ, ◌≤◌}
+use Rattle.std.specs.Prelude.{Result}
 use Rattle.laws.specs.Checks.{Check, first_failing, judged, Gives, AllPass, rising_from}
 use Rattle.laws.proofs.Checks.{gives_first, lowest_given, none_fails, judged_passed}
+use Rattle.output.specs.declared.refusal.Refusal.{Refusal}
+use Rattle.output.specs.Refusal.{number_in}
+use Rattle.output.proofs.Refusals.{one_result}
 use Rattle.survey.specs.Rows.{rises_then_stays}
 use Rattle.survey.specs.File.{contents_in, parts_in, table_sent, eleven_frames, is_one_table, each_once, file_checks, file_number}
 
@@ -31,6 +35,10 @@ module _ (s : List ℕ) where
   -- the promise is an equation, and leaves one outcome
   pub file_one_outcome : (q r : ℕ) → q ≡ file_number s → r ≡ file_number s → q ≡ r
   file_one_outcome q r a b = a ∙ sym b
+
+  -- the number leads back to what was returned
+  pub file_one_result : (q r : Result (Unit {0}) Refusal) → number_in q ≡ file_number s → number_in r ≡ file_number s → q ≡ r
+  file_one_result q r a b = one_result tt q r (a ∙ sym b) refl
 
   -- ---- 0 is all four
 

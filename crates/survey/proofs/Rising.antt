@@ -1,14 +1,12 @@
 -- Rows that rise up to some row and then stay: if there is such a row, it is the one that the code finds by going up as long as they rise; such rows never
 -- fall, and at the level of each of them the volume is its own. Assumes nothing.
 use mathlib.Core.Path.{◌≡◌, refl, sym, ◌∙◌}
-use mathlib.Core.Logic.{◌≢◌}
 use mathlib.Core.List.{List}
-use mathlib.Core.Bool.{true, false}
+use mathlib.Core.Bool.{true}
 use Prim.Native.Nat.{ℕ, ◌+◌, ◌-◌, ◌≤◌, ◌<◌}
 use native.Mathlib.Decide.{dec_lt}
 use native.Mathlib.Omega.{arith}
-use lib.Dec.{leb, eqb}
-use borrow.Author.Tests.{leb-true, le-leb, ltb-true, lt-ltb, le-ltb, eqb-true, eq-eqb, ne_eqb}
+use borrow.Author.Tests.{leb-true, le-leb, ltb-true, lt-ltb, eqb-true, eq-eqb}
 use Rattle.laws.specs.Checks.{every, some}
 use Rattle.laws.proofs.Tests.{never, and_both, both_ways, every_at, every_of, some_is, some_of}
 use Rattle.tables.specs.Rows.{level, volume, climbs, volume_at, never_fall}
@@ -26,23 +24,6 @@ module _ (level volume : ℕ → ℕ) where
   rises_if : (i : ℕ) → level i < level (i + 1) → volume i ≤ volume (i + 1) → row_rises level volume i ≡ true
   unfolding row_rises
   rises_if i a b = rw (lt-ltb _ _ a, le-leb _ _ b)
-
-  -- as code asks it: the levels first
-  pub level_stays : (i : ℕ) → level (i + 1) ≤ level i → row_rises level volume i ≡ false
-  unfolding row_rises
-  level_stays i a = rw (le-ltb _ _ a)
-
-  pub level-rises : (i : ℕ) → level i < level (i + 1) → row_rises level volume i ≡ leb (volume i) (volume (i + 1))
-  unfolding row_rises
-  level-rises i a = rw (lt-ltb _ _ a)
-
-  pub other-level : (i j : ℕ) → level i ≢ level j → same_row level volume i j ≡ false
-  unfolding same_row
-  other-level i j n = rw (ne_eqb _ _ n)
-
-  pub same-level : (i j : ℕ) → level i ≡ level j → same_row level volume i j ≡ eqb (volume i) (volume j)
-  unfolding same_row
-  same-level i j e = rw (eq-eqb _ _ e)
 
   same_row_is : (i j : ℕ) → same_row level volume i j ≡ true → (level i ≡ level j) × (volume i ≡ volume j)
   unfolding same_row

@@ -24,7 +24,7 @@ use Rattle.image.proofs.Indices.{index_below}
 use Rattle.image.proofs.UsableFacts.{facts, least_length}
 use Rattle.rules.specs.declared.rule.Act.TheVariants.{Store}
 use Rattle.rules.specs.declared.switch.Switch.TheVariants.{Unsealed}
-use Rattle.rules.specs.declared.verdict.Verdict.TheVariants.{Accepted}
+use Rattle.rules.specs.Order.{Accepted}
 use Rattle.rules.specs.Rules.{byte, commands, rule_of}
 use Rattle.rules.specs.Seal.{lets}
 use Rattle.rules.specs.Verdict.{tried, sought, recognised}

@@ -7,18 +7,8 @@ use Rattle.text.specs.Cut.{pieces}
 use Rattle.frame.specs.Apart.{contents_of}
 use Rattle.rules.specs.Rules.{byte}
 use Rattle.survey.specs.declared.first.First.{First}
-use Rattle.survey.specs.declared.gather.Taken.{Taken}
-use Rattle.survey.specs.declared.gather.Read.{Read}
 use Rattle.survey.specs.declared.sheet.Sheet.{Sheet}
 use Rattle.survey.specs.File.{is_frame, contents_in, address_in, table_in, sends}
-
--- what the frames so far have said, and a table's bytes with the rows of those parts that came
-pub record Gathered : Type 0 where
-  pub sheet : Sheet
-  pub rows : List ℕ
-
-abbrev pub gathering : Sheet → List ℕ → Gathered
-gathering h r = record { sheet = h; rows = r }
 
 -- a part from 1 to 11 whose bit is not among those of the parts that came
 unfoldable pub is_new : ℕ → ℕ → Bool
@@ -28,46 +18,51 @@ is_new w p = within 1 11 p && not (eqb (bit w (p - 1)) 1)
 
 -- it is for something else
 abbrev pub strange : Sheet → Sheet
-strange h = record { one = false; once = h.once; parts = h.parts }
+strange h = record { first = h.first; one = false; once = h.once; parts = h.parts; rows = h.rows }
 
 -- its part came before, or is none
 abbrev pub repeated : Sheet → Sheet
-repeated h = record { one = h.one; once = false; parts = h.parts }
+repeated h = record { first = h.first; one = h.one; once = false; parts = h.parts; rows = h.rows }
 
-abbrev pub counted : Sheet → ℕ → Sheet
-counted h p = record { one = h.one; once = h.once; parts = with_bit h.parts (p - 1) }
+-- its part is counted, and its rows lie at their place
+abbrev pub counted : Sheet → List ℕ → Sheet
+counted h c =
+    record {
+      first = h.first;
+      one = h.one;
+      once = h.once;
+      parts = with_bit h.parts (byte c 4 - 1);
+      rows = lay h.rows (128 * (byte c 4 - 1)) (drop 4 c);
+    }
 
-module _ (a t : ℕ) where
-  unfoldable pub added : Gathered → List ℕ → Gathered
-  added g c =
-      cond (sends a t c)
-      (cond (is_new g.sheet.parts (byte c 4))
-      (gathering (counted g.sheet (byte c 4)) (lay g.rows (128 * (byte c 4 - 1)) (drop 4 c)))
-      (gathering (repeated g.sheet) g.rows))
-      (gathering (strange g.sheet) g.rows)
+unfoldable pub added : Sheet → List ℕ → Sheet
+added h c = cond (sends h.first.address h.first.table c) (cond (is_new h.parts (byte c 4)) (counted h c) (repeated h)) (strange h)
 
-  -- ---- all of them
+-- ---- all of them
 
-  unfoldable pub gathered : Gathered → List (List ℕ) → Gathered
-  gathered g [] = g
-  gathered g (c ∷ cs) = gathered (added g c) cs
+unfoldable pub gathered : Sheet → List (List ℕ) → Sheet
+gathered h [] = h
+gathered h (c ∷ cs) = gathered (added h c) cs
 
-abbrev pub blank : Sheet
-blank = record { one = true; once = true; parts = 0 }
+-- before the first, over what the room holds
+abbrev pub blank : First → List ℕ → Sheet
+blank f r = record { first = f; one = true; once = true; parts = 0; rows = r }
 
 -- ---- what the code's steps give
 
--- the address and the table that the first frame has, if it is one
+-- the first piece is a frame, and has this address and this table
 pub record Opens (s : List ℕ) (r : First) : Type 0 where
-  pub address_is : is_frame (get_or (pieces s) 0 []) ≡ true → r.address ≡ address_in (contents_in s)
-  pub table_is : is_frame (get_or (pieces s) 0 []) ≡ true → r.table ≡ table_in (contents_in s)
+  pub good : is_frame (get_or (pieces s) 0 []) ≡ true
+  pub address_is : r.address ≡ address_in (contents_in s)
+  pub table_is : r.table ≡ table_in (contents_in s)
 
--- a piece: whether it is a frame; if so, it is added
-pub record Takes (a t : ℕ) (f : List ℕ) (g : Gathered) (r : Taken) (rows : List ℕ) : Type 0 where
-  pub good_is : r.good ≡ is_frame f
-  pub adds : is_frame f ≡ true → gathering r.sheet rows ≡ added a t g (contents_of f)
+-- a piece is a frame, and is added
+pub record Takes (f : List ℕ) (h x : Sheet) : Type 0 where
+  pub good : is_frame f ≡ true
+  pub adds : x ≡ added h (contents_of f)
 
--- a file: how many frames it has if every piece is one, else 0; and if so, what all of them say
-pub record Reads (a t : ℕ) (s : List ℕ) (old : List ℕ) (r : Read) (rows : List ℕ) : Type 0 where
-  pub frames_are : r.frames ≡ cond (all is_frame (pieces s)) (length (pieces s)) 0
-  pub gathers : all is_frame (pieces s) ≡ true → gathering r.sheet rows ≡ gathered a t (gathering blank old) (contents_in s)
+-- every piece of a file is a frame: how many there are, and what all of them say
+pub record Reads (s : List ℕ) (h x : Sheet) (n : ℕ) : Type 0 where
+  pub good : all is_frame (pieces s) ≡ true
+  pub frames_are : n ≡ length (pieces s)
+  pub gathers : x ≡ gathered h (contents_in s)

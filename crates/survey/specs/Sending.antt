@@ -4,8 +4,7 @@ use Rattle.laws.specs.Checks.{check, judged}
 use Rattle.image.specs.Version.{current}
 use Rattle.image.specs.Held.{held_parts}
 use Rattle.order.specs.Serving.{Call, nothing}
-use Rattle.tables.specs.declared.quantity.Quantity.{Quantity}
-use Rattle.tables.specs.Quantity.{unanswered, covers, answered, quantity_at}
+use Rattle.tables.specs.Quantity.{Quantity, unanswered, covers, answered, quantity_at}
 use Rattle.survey.specs.File.{contents_in, table_in, table_sent}
 use Rattle.survey.specs.Described.{frame_at}
 

@@ -1,56 +1,46 @@
-// A table file's number.
-ghost use Rattle.std.specs.Prelude.{◌≡◌, length};
+// A table file, checked.
+ghost use Rattle.std.specs.Prelude.{◌≡◌};
+ghost use Rattle.output.specs.Refusal.{number_in};
 ghost use Rattle.survey.specs.File.{file_number};
 
 use crate::first::first_of;
-use crate::gather::read_all;
 use crate::rows::rise_then_stay;
-use image::{Cell, table_index};
+use crate::sheet::Sheet;
+use image::table_index;
+use output::Refusal;
 
 // Eleven frames have at most 2,959 bytes, so that a file longer than this fails the count of its frames too: the limit says how much is read in vain.
 const FILE_MOST: usize = 4096;
 
 const FRAMES: usize = 11;
 
-// How many tables there are.
-const TABLES: u8 = 16;
-
-// The room is for the table's rows; what it holds beforehand does not matter.
-fn check_with(file: &[u8], rows: &mut [u8]) -> u8
-    requires { length rows.old ≡ 1408 }
-    ensures { result ≡ file_number file.now }
+// Checks a file before its frames are sent. Its refusals are 17, 18, 19 and 20, each over the whole file before the next.
+pub fn check_file(file: &[u8]) -> Result<(), Refusal>
+    ensures { number_in result ≡ file_number file.now }
 {
     if FILE_MOST < file.len() {
-        return 17;
+        return Err(Refusal::Frames);
     }
-    let first = first_of(file);
-    let read = read_all(file, first.address, first.table, rows);
-    let sheet = read.sheet;
-    if read.frames != FRAMES {
-        return 17;
+    let first = first_of(file).ok_or(Refusal::Frames)?;
+    let mut sheet = Sheet::new(first);
+    let frames = sheet.read(file).ok_or(Refusal::Frames)?;
+    if frames != FRAMES {
+        return Err(Refusal::Frames);
     }
     if !sheet.one {
-        return 18;
+        return Err(Refusal::Table);
     }
     if first.address == 0 {
-        return 18;
+        return Err(Refusal::Table);
     }
-    if TABLES <= table_index(first.table as u32) {
-        return 18;
+    if table_index(u32::from(first.table)).is_none() {
+        return Err(Refusal::Table);
     }
     if !sheet.once {
-        return 19;
+        return Err(Refusal::Parts);
     }
-    if !rise_then_stay(rows) {
-        return 20;
+    if !rise_then_stay(&sheet.rows) {
+        return Err(Refusal::Rows);
     }
-    0
-}
-
-// Checks a file before its frames are sent, and answers with a number alone. Refuses 17, 18, 19 and 20, each over the whole file before the next.
-pub fn check_file(file: &[u8]) -> u8
-    ensures { result ≡ file_number file.now }
-{
-    let mut rows = [0u8; Cell::TABLE_SIZE];
-    check_with(file, &mut rows)
+    Ok(())
 }

@@ -1,7 +1,8 @@
 // The first frame of a file, by whose address and table all are judged.
+ghost use Rattle.std.specs.Prelude.{◌≡◌, [], false, get_or, MatchOption};
+ghost use Rattle.text.specs.Cut.{pieces};
+ghost use Rattle.survey.specs.File.{is_frame};
 ghost use Rattle.survey.specs.Gather.{Opens};
-
-use text::piece_end;
 
 #[derive(Clone, Copy)]
 pub(crate) struct First {
@@ -9,18 +10,17 @@ pub(crate) struct First {
     pub table: u8,
 }
 
-// Where the first piece is no frame, nothing is said: the file is refused for that. The contents of a short one may end before a table: what stands there
-// then is its checksum.
-pub(crate) fn first_of(file: &[u8]) -> First
-    ensures { Opens file.now result }
+// Nothing where the first piece is no frame: the file is refused for that. A byte that the contents of a short one do not have is 0, as the definition reads
+// it, and no option: 0 is no address and no table, so that it is refused with those.
+pub(crate) fn first_of(file: &[u8]) -> Option<First>
+    ensures { MatchOption result (is_frame (get_or (pieces file.now) 0 []) ≡ false) (Opens file.now) }
 {
-    let end = piece_end(file, 0);
+    let piece = file.split_inclusive(|b| *b == b'\n').next()?;
     let mut work = [0u8; 133];
-    let taken = frame::read_into(&file[..end], &mut work);
-    let address = work[0];
-    let table = work[2];
-    First {
-        address,
-        table: if taken.len < 3 { 0 } else { table },
-    }
+    let n = frame::read_into(piece, &mut work).ok()?;
+    let contents = &work[..n];
+    Some(First {
+        address: contents.first().copied().unwrap_or(0),
+        table: contents.get(2).copied().unwrap_or(0),
+    })
 }

@@ -3,7 +3,6 @@
 
 mod file;
 mod first;
-mod gather;
 mod rows;
 mod sheet;
 

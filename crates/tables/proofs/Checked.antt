@@ -3,22 +3,28 @@
 use mathlib.Core.Path.{◌≡◌, refl, sym, ap, ◌∙◌}
 use mathlib.Core.Logic.{◌≢◌}
 use mathlib.Core.List.{List, [], ◌∷◌, map}
-use mathlib.Core.Bool.{true, false}
+use mathlib.Core.Bool.{true, false, ◌&&◌}
 use Prim.Native.Nat.{ℕ, ◌<◌, ◌≤◌}
+use native.Mathlib.Decide.{dec_lt}
+use native.Mathlib.Omega.{arith}
 use borrow.Author.Tests.{eq-eqb, ne_eqb}
-use Rattle.laws.specs.Checks.{judged, AllPass, rising_from}
-use Rattle.laws.proofs.Tests.{within_is, within_in, within_below, within_above}
-use Rattle.laws.proofs.Checks.{Judged, passed, failed, judge, gives_one, none_fails}
-use Rattle.image.specs.declared.held.Held.{Held}
+use Rattle.std.specs.Prelude.{Ok, Err, Option, Some, None, is_some, unwrap_or}
+use Rattle.std.specs.Option.{ForSome}
+use Rattle.std.specs.Ordering.{is_le, nat_cmp}
+use Rattle.laws.specs.Checks.{judged, first_failing, AllPass, rising_from}
+use Rattle.laws.proofs.Tests.{never, within_is, within_in, within_below, within_above}
+use Rattle.laws.proofs.Checks.{Judged, passed, failed, judge, judged_number, none_fails}
+use Rattle.output.specs.declared.refusal.Refusal.{Refusal}
+use Rattle.output.specs.Refusal.{number_of}
+use Rattle.output.proofs.Refusals.{above_0}
+use Rattle.image.specs.declared.parts.Held.{Held}
 use Rattle.image.specs.declared.version.Version.{Version}
 use Rattle.image.specs.Cell.{is_table, table_index}
 use Rattle.image.specs.Words.{table_word}
 use Rattle.image.specs.Usable.{usable}
-use Rattle.image.specs.Held.{lowest_missing, unheld, held_of, held_checks, held_parts}
-use Rattle.izk.proofs.Refusals.{held_gives}
-use Rattle.tables.specs.declared.quantity.Quantity.{Quantity}
+use Rattle.image.specs.Held.{HeldAnswer, lowest_missing, unheld, held_of, held_checks, held_parts, held_in}
 use Rattle.tables.specs.Rows.{level, never_fall}
-use Rattle.tables.specs.Quantity.{unanswered, table_bytes, whole, covers, row_checks, quantity_checks, answered, quantity_at}
+use Rattle.tables.specs.Quantity.{Quantity, unanswered, table_bytes, whole, covers, row_checks, quantity_checks, answered, quantity_at}
 
 -- ---- the five, in their order
 
@@ -55,42 +61,59 @@ module _ (v : Version) (m : List ℕ) (t x : ℕ) where
         unfolding quantity_at judged
         outside_is_14 n c = rw (u, h, w, n, c)
 
--- ---- by the held-parts question, h
+-- ---- by what the held-parts question returns
 
-module _ (v : Version) (m : List ℕ) (t : ℕ) (h : Held) (e : h ≡ held_parts v m t) where
-  -- 0: its two checks pass
-  pub held_passes : h.number ≡ 0 → AllPass (held_checks v m t)
-  unfolding rising_from
-  held_passes z =
-      none_fails 0 (held_checks v m t) refl (sym (gives_one (held_checks v m t) _ (held_gives v m t)) ∙ sym (ap (λ (a : Held). a.number) e) ∙ z)
+counted_some : (o : Option ℕ) → ForSome o (λ p. 0 < p) → is_some o ≡ true → unwrap_or o 0 ≢ 0
+counted_some None c n z = never n
+counted_some (Some p) c n z = let h : 0 < p = c p refl in let e : p ≡ 0 = z in omega arith
+
+counted_none : (o : Option ℕ) → is_some o ≡ false → unwrap_or o 0 ≡ 0
+counted_none None n = refl
+counted_none (Some p) n = absurd (never (sym n))
+
+module _ (v : Version) (m : List ℕ) (t : ℕ) where
+  held_number : (held_parts v m t).number ≡ first_failing (held_checks v m t)
+  unfolding held_parts held_of
+  held_number = judged_number (λ (a : HeldAnswer). a.number) unheld (held_checks v m t) _ (λ n. refl) (λ p. refl)
 
   -- its refusals are the first two
-  pub held_refused : (x : ℕ) → h.number ≢ 0 → quantity_at v m t x ≡ unanswered h.number
+  pub held_refused : (r : Refusal) → held_in (Err r) ≡ held_parts v m t → (x : ℕ) → quantity_at v m t x ≡ unanswered (number_of r)
   unfolding quantity_at held_parts held_of judged
-  held_refused x n = go (judge (held_checks v m t))
+  held_refused r e x = go (judge (held_checks v m t))
     where
-      go : Judged (held_checks v m t) → quantity_at v m t x ≡ unanswered h.number
-      go (passed p) = absurd (n (ap (λ (a : Held). a.number) e ∙ rw (p.0, p.1.0)))
-      go (failed c f reads) =
-          let number : h.number ≡ c.number = ap (λ (a : Held). a.number) (e ∙ reads Held unheld _) in
-          reads Quantity unanswered _ ∙ ap unanswered (sym number)
+      number : number_of r ≡ (held_parts v m t).number
+      number = ap (λ (a : HeldAnswer). a.number) e
 
-  module _ (z : h.number ≡ 0) (x : ℕ) where
-    missing_is : h.missing ≡ lowest_missing (table_word m (table_index t))
+      go : Judged (held_checks v m t) → quantity_at v m t x ≡ unanswered (number_of r)
+      go (passed p) = absurd (let z : number_of r ≡ 0 = number ∙ rw (p.0, p.1.0) in omega (arith, above_0 r))
+      go (failed c f reads) =
+          let same : number_of r ≡ c.number = number ∙ ap (λ (a : HeldAnswer). a.number) (reads HeldAnswer unheld _) in
+          reads Quantity unanswered _ ∙ ap unanswered (sym same)
+
+  module _ (h : Held) (e : held_in (Ok h) ≡ held_parts v m t) where
+    -- else its two checks pass
+    pub held_passes : AllPass (held_checks v m t)
+    unfolding rising_from
+    held_passes = none_fails 0 (held_checks v m t) refl (sym held_number ∙ sym (ap (λ (a : HeldAnswer). a.number) e))
+
+    missing_is : unwrap_or h.missing 0 ≡ lowest_missing (table_word m (table_index t))
     unfolding held_parts held_of judged
-    missing_is = let p = held_passes z in ap (λ (a : Held). a.missing) e ∙ rw (p.0, p.1.0)
+    missing_is = let p = held_passes in ap (λ (a : HeldAnswer). a.missing) e ∙ rw (p.0, p.1.0)
 
     -- a part that is missing is 12
-    pub part_missing : h.missing ≢ 0 → quantity_at v m t x ≡ unanswered 12
+    pub part_missing : is_some h.missing ≡ true → (x : ℕ) → quantity_at v m t x ≡ unanswered 12
     unfolding whole
-    part_missing n = let p = held_passes z in lacking_is_12 v m t x p.0 p.1.0 (ne_eqb _ 0 (λ i. n (missing_is ∙ i)))
+    part_missing n x = let p = held_passes in lacking_is_12 v m t x p.0 p.1.0 (ne_eqb _ 0 (λ z. counted_some h.missing h.counted n (missing_is ∙ z)))
 
     -- where none is, the rows decide
-    pub none_missing : h.missing ≡ 0 → quantity_at v m t x ≡ judged unanswered (row_checks (table_bytes m t) x) (answered (table_bytes m t) x)
+    pub none_missing : is_some h.missing ≡ false → (x : ℕ) → quantity_at v m t x ≡ judged unanswered (row_checks (table_bytes m t) x) (answered (table_bytes m t) x)
     unfolding quantity_at judged whole
-    none_missing n = let p = held_passes z in rw (p.0, p.1.0, eq-eqb _ 0 (sym missing_is ∙ n))
+    none_missing n x = let p = held_passes in rw (p.0, p.1.0, eq-eqb _ 0 (sym missing_is ∙ counted_none h.missing n))
 
 -- ---- by the rows
+
+ordered : (a b : ℕ) → a ≤ b → is_le (nat_cmp a b) ≡ true
+ordered a b l = grind arith
 
 module _ (s : List ℕ) (x : ℕ) where
   pub covers_is : covers s x ≡ true → (level s 0 ≤ x) × (x ≤ level s 351)
@@ -128,3 +151,12 @@ module _ (s : List ℕ) (x : ℕ) where
     pub inside : level s 0 ≤ x → x ≤ level s 351 → by_rows ≡ answered s x
     unfolding judged
     inside l g = rw (h, covers_if l g)
+
+    -- what the library's range from row 1's level to row 352's does not contain
+    pub outside : (is_le (nat_cmp (level s 0) x) && is_le (nat_cmp x (level s 351))) ≡ false → by_rows ≡ unanswered 14
+    outside n = go (dec_lt x (level s 0)) (dec_lt (level s 351) x)
+      where
+        go : Dec (x < level s 0) → Dec (level s 351 < x) → by_rows ≡ unanswered 14
+        go (yes l) d = too_low l
+        go (no a) (yes l) = too_high l
+        go (no a) (no b) = absurd (never (sym n ∙ rw (ordered (level s 0) x (omega arith), ordered x (level s 351) (omega arith))))

@@ -1,12 +1,11 @@
 -- Which row answers: the last at or below a level, for any levels; and rows that never fall. Assumes nothing.
 use mathlib.Core.Path.{◌≡◌, sym}
 use mathlib.Core.List.{List}
-use mathlib.Core.Bool.{true, false}
+use mathlib.Core.Bool.{true}
 use Prim.Native.Nat.{ℕ, zero, suc, ◌+◌, ◌≤◌, ◌<◌}
 use native.Mathlib.Decide.{ℕ_discrete, dec_lt}
 use native.Mathlib.Numerals.{add-one}
 use native.Mathlib.Omega.{arith}
-use lib.Dec.{leb}
 use borrow.Author.Tests.{leb-true, le-leb, lt-leb}
 use Rattle.laws.specs.Checks.{every}
 use Rattle.laws.proofs.Tests.{and_both, every_at, every_of}
@@ -76,15 +75,6 @@ module _ (level volume : ℕ → ℕ) where
   pub climbs_if : (i : ℕ) → level i ≤ level (i + 1) → volume i ≤ volume (i + 1) → climbs level volume i ≡ true
   unfolding climbs
   climbs_if i a b = rw (le-leb _ _ a, le-leb _ _ b)
-
-  -- as the code asks it: the levels first
-  pub level_falls : (i : ℕ) → level (i + 1) < level i → climbs level volume i ≡ false
-  unfolding climbs
-  level_falls i a = rw (lt-leb _ _ a)
-
-  pub level-climbs : (i : ℕ) → level i ≤ level (i + 1) → climbs level volume i ≡ leb (volume i) (volume (i + 1))
-  unfolding climbs
-  level-climbs i a = rw (le-leb _ _ a)
 
   module _ (n : ℕ) (h : every (climbs level volume) n ≡ true) where
     pub levels_climb : (i j : ℕ) → i ≤ j → j ≤ n → level i ≤ level j

@@ -1,8 +1,10 @@
+pub mod Walks
 pub mod Worked
 pub mod Between
 pub mod LastRow
 pub mod Answer
 pub mod Stands
+pub mod Fours
 pub mod Checked
 pub mod Promises
 pub mod Sent

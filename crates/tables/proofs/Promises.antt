@@ -7,19 +7,21 @@ use Prim.Native.Nat.{ℕ, ◌≤◌, ◌<◌}
 use native.Mathlib.Decide.{ℕ_discrete, dec_lt}
 use native.Mathlib.Omega.{arith}
 use borrow.Author.Tests.{eqb-true, eq-eqb}
+use Rattle.std.specs.Prelude.{Result}
 use Rattle.laws.specs.Bytes.{word_at}
 use Rattle.laws.specs.Checks.{Check, Gives, AllPass, every}
 use Rattle.laws.proofs.Bytes.{Bytes}
 use Rattle.laws.proofs.Checks.{judged_passed, judged_gives, judged_refused, gives_one, lowest_given, none_fails}
+use Rattle.output.specs.declared.refusal.Refusal.{Refusal}
+use Rattle.output.proofs.Refusals.{one_result}
 use Rattle.image.specs.declared.version.Version.{Version}
 use Rattle.image.specs.Cell.{is_table, table_index}
 use Rattle.image.specs.Words.{table_word}
 use Rattle.image.specs.Usable.{usable}
 use Rattle.image.specs.Held.{lowest_missing}
 use Rattle.image.proofs.Missing.{Full, Lowest, lowest_missing_is, one_lowest}
-use Rattle.tables.specs.declared.quantity.Quantity.{Quantity}
 use Rattle.tables.specs.Rows.{level, volume, climbs, never_fall, last_row, volume_at}
-use Rattle.tables.specs.Quantity.{unanswered, table_bytes, whole, covers, quantity_checks, answered, quantity_at}
+use Rattle.tables.specs.Quantity.{Quantity, quantity_of, unanswered, table_bytes, whole, covers, quantity_checks, answered, quantity_at}
 use Rattle.tables.proofs.LastRow.{Last, is_last, NeverFalls, never_fall_is}
 use Rattle.tables.proofs.Answer.{By, answer_by_lem, rises, at_row}
 use Rattle.tables.proofs.Stands.{bytes_small}
@@ -43,6 +45,12 @@ module _ (v : Version) (m : List ℕ) (t x : ℕ) where
   -- the promise is an equation, and leaves one outcome
   pub quantity_one_outcome : (q r : Quantity) → q ≡ quantity_at v m t x → r ≡ quantity_at v m t x → q ≡ r
   quantity_one_outcome q r a b = a ∙ sym b
+
+  -- what is reported leads back to what was returned
+  pub quantity_one_result : (q r : Result ℕ Refusal) → quantity_of q ≡ quantity_at v m t x → quantity_of r ≡ quantity_at v m t x → q ≡ r
+  quantity_one_result q r a b =
+      let e = a ∙ sym b in
+      one_result 0 q r (ap (λ (z : Quantity). z.number) e) (ap (λ (z : Quantity). z.volume) e)
 
 -- ---- what check 12 asks: all eleven bits are set, and no other word passes
 

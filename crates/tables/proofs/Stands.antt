@@ -1,12 +1,13 @@
 -- Where a table's rows stand in the image. Assumes nothing.
-use mathlib.Core.Path.{◌≡◌, ◌∙◌}
+use mathlib.Core.Path.{◌≡◌}
 use mathlib.Core.List.{List}
 use Prim.Native.Nat.{ℕ, ◌+◌, ◌-◌, ◌*◌, ◌≤◌, ◌<◌}
 use native.Mathlib.Omega.{arith}
-use lib.ListN.{take, drop}
+use lib.ListN.{length, take, drop, length-drop}
 use lib.Seq.{get_or-take, get_or-drop}
+use Rattle.std.proofs.lemmas.List.{take_all}
 use Rattle.laws.specs.Bytes.{slice, word_at}
-use Rattle.laws.proofs.Bytes.{Bytes, slice_is, bytes_slice}
+use Rattle.laws.proofs.Bytes.{Bytes, bytes_slice}
 use Rattle.image.specs.Cell.{table_index}
 use Rattle.tables.specs.Rows.{level, volume}
 use Rattle.tables.specs.Quantity.{table_bytes}
@@ -32,9 +33,11 @@ module _ (m : List ℕ) (t : ℕ) where
       rw e (slice_word _ 1408 m (4 * i + 2) (omega arith))
 
   -- the table's bytes, as the code cuts them
-  pub bytes_cut : (k : ℕ) → k ≡ table_index t → take (1225 + 1408 * k + 1408 - (1225 + 1408 * k)) (drop (1225 + 1408 * k) m) ≡ table_bytes m t
-  unfolding table_bytes
-  bytes_cut k e = slice_is (1225 + 1408 * k) (1225 + 1408 * k + 1408) 1408 m (omega arith) ∙ rw e
+  pub bytes_cut : (k : ℕ) → k ≡ table_index t → take 1408 (take (length m - (1225 + 1408 * k)) (drop (1225 + 1408 * k) m)) ≡ table_bytes m t
+  unfolding table_bytes slice
+  bytes_cut k e =
+      let rest = drop (1225 + 1408 * k) m in
+      rw (take_all (length m - (1225 + 1408 * k)) rest (omega (arith, length-drop (1225 + 1408 * k) m)), e)
 
   pub bytes_small : Bytes m → Bytes (table_bytes m t)
   unfolding table_bytes

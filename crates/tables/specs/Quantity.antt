@@ -1,15 +1,25 @@
 -- The volume at a level, by a table of the image (document 02, request 3). Assumes nothing.
-use Rattle.std.specs.Prelude.{List, [], ◌∷◌, Bool, ℕ, eqb}
+use Rattle.std.specs.Prelude.{List, [], ◌∷◌, Bool, ℕ, Result, eqb}
 use Rattle.laws.specs.Bytes.{slice}
 use Rattle.laws.specs.Checks.{Check, check, judged, within}
+use Rattle.output.specs.declared.refusal.Refusal.{Refusal}
+use Rattle.output.specs.Refusal.{number_in, value_in}
 use Rattle.image.specs.declared.cell.Cell.TheVariants.{Table}
 use Rattle.image.specs.declared.version.Version.{Version}
 use Rattle.image.specs.Cell.{offset, size, is_table, table_index}
 use Rattle.image.specs.Words.{table_word}
 use Rattle.image.specs.Usable.{usable}
 use Rattle.image.specs.Held.{lowest_missing}
-use Rattle.tables.specs.declared.quantity.Quantity.{Quantity}
 use Rattle.tables.specs.Rows.{level, volume, never_fall, volume_at}
+
+-- what the question reports: a number, and the volume in the table's units
+pub record Quantity : Type 0 where
+  pub number : ℕ
+  pub volume : ℕ
+
+-- of what the code returns
+abbrev pub quantity_of : Result ℕ Refusal → Quantity
+quantity_of r = record { number = number_in r; volume = value_in 0 r }
 
 -- a refusal has volume 0
 abbrev pub unanswered : ℕ → Quantity

@@ -1,8 +1,9 @@
 -- The rows of a table, and the volume that they give at a level (document 01, "Commands", has them as 59 sends them; document 02, request 3). Rows count
 -- from 0, so that row 352 is row 351 here. Assumes nothing.
-use Rattle.std.specs.Prelude.{◌≡◌, List, Bool, true, cond, ◌&&◌, ℕ, zero, suc, ◌+◌, ◌-◌, ◌*◌, ◌/◌, ◌≤◌, length, leb, eqb}
+use Rattle.std.specs.Prelude.{◌≡◌, List, Bool, true, cond, ◌&&◌, ℕ, zero, suc, ◌+◌, ◌-◌, ◌*◌, ◌/◌, ◌≤◌, leb, eqb}
 use Rattle.laws.specs.Bytes.{word_at}
 use Rattle.laws.specs.Checks.{every}
+use Rattle.tables.specs.declared.rows.Row.{Row}
 
 -- a row's two numbers, from its table's bytes
 abbrev pub level : List ℕ → ℕ → ℕ
@@ -10,6 +11,9 @@ level s i = word_at s (4 * i)
 
 abbrev pub volume : List ℕ → ℕ → ℕ
 volume s i = word_at s (4 * i + 2)
+
+abbrev pub row : List ℕ → ℕ → Row
+row s i = record { level = level s i; volume = volume s i }
 
 -- row i of the 32 that a body sends: four bytes each from byte 5 on, level first
 abbrev pub sent_level : List ℕ → ℕ → ℕ
@@ -48,6 +52,5 @@ never_fall s = every (climbs (level s) (volume s)) 351
 
 -- what a search asks for
 pub record Ready (s : List ℕ) (x : ℕ) : Type 0 where
-  pub long : length s ≡ 1408
   pub climbing : never_fall s ≡ true
   pub least : level s 0 ≤ x

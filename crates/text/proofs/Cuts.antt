@@ -1,13 +1,17 @@
 -- Cutting as a loop does it: where the piece that begins at an index ends, and what is left to be cut from there on. Assumes nothing.
-use mathlib.Core.Path.{◌≡◌, refl}
+use mathlib.Core.Path.{◌≡◌, refl, ap}
 use mathlib.Core.List.{List, [], ◌∷◌}
-use mathlib.Core.Bool.{Bool, true, false, cond}
+use mathlib.Core.Bool.{Bool, true, false, cond, not}
 use Prim.Native.Nat.{ℕ, suc, ◌+◌, ◌-◌, ◌<◌, ◌≤◌, min}
+use native.Mathlib.Decide.{dec_le}
 use native.Mathlib.Omega.{arith}
 use lib.ListN.{length, get_or, take, drop, length-drop}
 use lib.Seq.{drop-drop}
-use lib.Dec.{eqb}
+use lib.Dec.{eqb, ltb}
+use Rattle.std.proofs.lemmas.Bool.Decides.{nat_tests}
 use borrow.Author.Tests.{eq-eqb, ne_eqb}
+use Rattle.std.specs.Prelude.{Some, None, position}
+use Rattle.std.specs.List.{position_or_len}
 use Rattle.laws.specs.Bytes.{slice}
 use Rattle.laws.proofs.Walks.{next, none_left}
 use Rattle.laws.proofs.Bytes.{length-slice}
@@ -27,6 +31,46 @@ module _ (s : List ℕ) (i : ℕ) where
   pub end_none : length s ≤ i → piece_end i s ≡ length s
   unfolding piece_end ends
   end_none h = rw (none_left s i h) (omega arith)
+
+-- ---- the end of a piece, by the place of the first 0Ah
+
+ends_at : (s : List ℕ) → ends s ≡ min (length s) (position_or_len (λ b. eqb b 10) s + 1)
+unfolding ends
+ends_at [] = refl
+ends_at (b ∷ s) = go (eqb b 10) (ends_at s)
+  where
+    go : (t : Bool) → ends s ≡ min (length s) (position_or_len (λ b. eqb b 10) s + 1)
+        → cond t 1 (suc (ends s)) ≡ min (suc (length s)) (cond (not t) (1 + position_or_len (λ b. eqb b 10) s) 0 + 1)
+    go true h = omega arith
+    go false h = omega arith
+
+-- what an answer says of the place that was looked for
+place : (k n i : ℕ) → cond (ltb k n) (Some k) None ≡ Some i → (k ≡ i) × (k < n)
+place k n i e = (grind (arith, nat_tests), grind (arith, nat_tests))
+
+no_place : (k n : ℕ) → cond (ltb k n) (Some k) None ≡ None → n ≤ k
+no_place k n e = grind (arith, nat_tests)
+
+module _ (s : List ℕ) (from start : ℕ) (begins : start ≡ min from (length s)) where
+  -- past the end nothing is left, as at the end
+  rest_is : drop from s ≡ drop start s
+  rest_is = go (dec_le from (length s))
+    where
+      go : Dec (from ≤ length s) → drop from s ≡ drop start s
+      go (yes h) = let e : from ≡ start = omega arith in ap (λ (k : ℕ). drop k s) e
+      go (no h) = rw (none_left s from (omega arith), none_left s start (omega arith))
+
+  pub end_found : (i : ℕ) → position (λ b. eqb b 10) (drop start s) ≡ Some i → piece_end from s ≡ start + i + 1
+  unfolding piece_end
+  end_found i e =
+      let p = place _ _ i e in
+      rw (rest_is, ends_at (drop start s)) (omega (arith, length-drop start s))
+
+  pub end_nowhere : position (λ b. eqb b 10) (drop start s) ≡ None → piece_end from s ≡ length s
+  unfolding piece_end
+  end_nowhere e =
+      let p = no_place _ _ e in
+      rw (rest_is, ends_at (drop start s)) (omega (arith, length-drop start s))
 
 -- ---- the first piece
 

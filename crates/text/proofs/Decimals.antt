@@ -10,6 +10,8 @@ use native.Mathlib.Decide.{dec_lt}
 use native.Mathlib.Omega.{arith}
 use lib.ListN.{length, get_or, length-append, get_or-append}
 use borrow.Author.Tests.{lt-ltb, le-ltb}
+use Rattle.std.specs.Fmt.{decimal as printed}
+use Rattle.std.proofs.lemmas.Fmt.{decimal_by_steps}
 use Rattle.laws.specs.Checks.{all, within}
 use Rattle.laws.proofs.Tests.{within_in, all_then}
 use Rattle.text.specs.Decimal.{decimal_in, decimal, read_on, number_of}
@@ -43,6 +45,14 @@ pub decimal_more : (n : ℕ) → 10 ≤ n → decimal n ≡ decimal (n / 10) ++ 
 unfolding decimal
 decimal_more zero h = absurd (let z : ⊥ = omega arith in z)
 decimal_more (suc n) h = rw (in_more n (suc n) h, in_any n (suc n / 10) (suc n / 10) (omega arith) (omega arith))
+
+-- it is what the library prints
+pub decimal_printed : (n : ℕ) → n < 2 ^ 64 → decimal n ≡ printed n
+decimal_printed =
+    decimal_by_steps
+    (λ n ds. decimal n ≡ ds)
+    decimal_one
+    (λ n ds h ih. rw (decimal_more n h, ih))
 
 -- what holds of the numbers of one digit, and of a number where it holds of its tenth, holds of all
 by_digits : (P : ℕ → Type 0) → ((n : ℕ) → n < 10 → P n) → ((n : ℕ) → 10 ≤ n → P (n / 10) → P n) → (n : ℕ) → P n

@@ -2,114 +2,97 @@
 ghost use Rattle.std.specs.Prelude.{◌≡◌, ◌≢◌};
 ghost use Rattle.laws.specs.Checks.{first_failing};
 ghost use Rattle.image.specs.Version.{current};
-ghost use Rattle.tables.specs.Quantity.{table_bytes, quantity_checks, answered};
+ghost use Rattle.tables.specs.Quantity.{quantity_of, table_bytes, quantity_checks, answered};
 ghost use Rattle.survey.specs.File.{file_checks};
 ghost use Rattle.survey.specs.Described.{Says};
 
-use crate::print;
-use crate::print::Page;
-use image::{Cell, Named, Version};
-use output::Cursor;
-use tables::Quantity;
+use image::{Cell, Version};
+use output::Refusal;
+use page::Page;
+use std::io::Stdout;
 
+// Where they fit, else not at all.
 pub(crate) fn put(image: &mut [u8], at: usize, bytes: &[u8]) {
-    if image.len() < at {
-        return;
-    }
-    if image.len() - at < bytes.len() {
-        return;
-    }
-    let start = Cursor { at };
-    start.put_all(image, bytes);
-}
-
-fn wide(b: u8) -> usize {
-    b as usize
-}
-
-// n bytes from `from` on.
-pub(crate) fn get(page: &mut Page, image: &[u8], from: usize, n: u8) {
-    let mut i = from;
-    let mut left = n;
-    while 0 < left {
-        if image.len() <= i {
-            return;
-        }
-        if i == from {
-            print::start(page, wide(image[i]));
-        } else {
-            print::next(page, wide(image[i]));
-        }
-        i += 1;
-        left -= 1;
+    if let Some(rest) = image.get_mut(at..)
+        && let Some(place) = rest.get_mut(..bytes.len())
+    {
+        place.copy_from_slice(bytes);
     }
 }
 
-// The offset and the value of each byte from `from` on that is not 0. Where more stands before them, the first has its space too.
-pub(crate) fn list(page: &mut Page, image: &[u8], from: usize, mut more: bool) {
-    let mut i = from;
-    while i < image.len() {
-        if image[i] != 0 {
+// n bytes from `from` on, or as many as there are, so that no caller has a slice of n to give.
+pub(crate) fn get(page: &mut Page<Stdout>, image: &[u8], from: usize, n: u8) {
+    let mut bytes = image.iter().skip(from).take(usize::from(n));
+    if let Some(first) = bytes.next() {
+        page.print(*first);
+    }
+    for b in bytes {
+        page.next(*b);
+    }
+}
+
+// The offset and the value of each byte from `from` on that is not 0. Where more stands before them, the first has its space too; that stays a flag, since
+// it decides nothing else.
+pub(crate) fn list(page: &mut Page<Stdout>, image: &[u8], from: usize, mut more: bool) {
+    for (i, b) in image.iter().enumerate() {
+        if from <= i && *b != 0 {
             if more {
-                print::text(page, b" ");
+                page.text(b" ");
             }
-            print::start(page, i);
-            print::text(page, b"=");
-            print::start(page, wide(image[i]));
+            page.print(format_args!("{i}={b}"));
             more = true;
         }
-        i += 1;
     }
 }
 
-// In version 1 where that is asked, else in the block's own.
-pub(crate) fn usable(page: &mut Page, image: &[u8], version: u8) {
-    let asked = if version == 1 {
-        Version::V1
-    } else {
-        Version::CURRENT
-    };
-    print::start(page, if image::is_usable(image, asked) { 1 } else { 0 });
-}
-
-// To version 2 or to version 1, into the first n bytes of another buffer; the number.
-pub(crate) fn moved(page: &mut Page, image: &[u8], version: u8, n: usize, second: &mut [u8]) {
-    if second.len() < n {
-        return;
-    }
-    match version {
-        1 => print::start(page, versions::move_down(image, &mut second[0..n]) as usize),
-        2 => print::start(page, versions::move_up(image, &mut second[0..n]) as usize),
-        _ => {}
+fn version_of(number: u8) -> Option<Version> {
+    match number {
+        1 => Some(Version::V1),
+        2 => Some(Version::V2),
+        _ => None,
     }
 }
 
-pub(crate) fn held(page: &mut Page, image: &[u8], table: u32) {
-    let h = izk::held_parts(image, table);
-    print::start(page, h.number as usize);
-    print::next(page, h.parts as usize);
-    print::next(page, h.missing as usize);
+// In the version that is asked, else in the block's own.
+pub(crate) fn usable(page: &mut Page<Stdout>, image: &[u8], number: u8) {
+    let version = version_of(number).unwrap_or(Version::CURRENT);
+    page.print(u8::from(image::is_usable(image, version)));
+}
+
+// To the version of this number, into another buffer.
+pub(crate) fn moved(page: &mut Page<Stdout>, image: &[u8], number: u8, target: &mut [u8]) {
+    if let Some(version) = version_of(number) {
+        page.print(page::number(&versions::move_to(version, image, target)));
+    }
+}
+
+pub(crate) fn held(page: &mut Page<Stdout>, image: &[u8], table: u32) {
+    let answer = izk::held_parts(image, table);
+    let (parts, missing) = page::held(&answer);
+    page.print(page::number(&answer));
+    page.next(parts);
+    page.next(missing);
 }
 
 // By the promise of the question alone: what it says of this table's number and of this very level, neither of them cut, is put to use here.
-fn volume_at(m: &[u8], table: u32, asked: u32) -> Quantity
-    ensures number_value { result.number ≡ first_failing (quantity_checks current m.now table asked) }
-    ensures value { result.number ≡ 0 → result ≡ answered (table_bytes m.now table) asked }
-    ensures volume_value { result.number ≢ 0 → result.volume ≡ 0 }
+fn volume_at(m: &[u8], table: u32, asked: u32) -> Result<u16, Refusal>
+    ensures number_value { (quantity_of result).number ≡ first_failing (quantity_checks current m.now table asked) }
+    ensures value { (quantity_of result).number ≡ 0 → quantity_of result ≡ answered (table_bytes m.now table) asked }
+    ensures volume_value { (quantity_of result).number ≢ 0 → (quantity_of result).volume ≡ 0 }
 {
     tables::quantity_at(m, table, asked)
 }
 
-// By a table whose number is one byte, or two with the high byte first.
-pub(crate) fn quantity(page: &mut Page, image: &[u8], level: u32, two: bool, a: u8, b: u8) {
-    let table = if two {
-        256 * (a as u32) + (b as u32)
-    } else {
-        a as u32
+// By a table whose number is one byte, or two with the high byte first. A refusal has volume 0, as document 02 has it.
+pub(crate) fn quantity(page: &mut Page<Stdout>, image: &[u8], level: u32, bytes: &[u8]) {
+    let table = match bytes {
+        [] => 0,
+        [number] => u32::from(*number),
+        [high, low, ..] => u32::from(u16::from_be_bytes([*high, *low])),
     };
-    let q = volume_at(image, table, level);
-    print::start(page, q.number as usize);
-    print::next(page, q.volume as usize);
+    let volume = volume_at(image, table, level);
+    page.print(page::number(&volume));
+    page.next(volume.unwrap_or(0));
 }
 
 // By the promise of the checker alone: what it says of these very bytes is put to use here.
@@ -117,58 +100,38 @@ fn number_of(bytes: &[u8]) -> u8
     ensures value { result ≡ first_failing (file_checks bytes.now) }
     ensures says { Says bytes.now result }
 {
-    survey::check_file(bytes)
+    page::number(&survey::check_file(bytes))
 }
 
 // As a table file.
-pub(crate) fn file(page: &mut Page, bytes: &[u8]) {
-    print::start(page, number_of(bytes) as usize);
+pub(crate) fn file(page: &mut Page<Stdout>, bytes: &[u8]) {
+    page.print(number_of(bytes));
 }
 
-// The sum of the first n bytes.
-pub(crate) fn total(page: &mut Page, image: &[u8], n: usize) {
-    if 65536 < n {
-        return;
+// The sum of an item's bytes, of which it has 65,536 at most.
+pub(crate) fn total(page: &mut Page<Stdout>, item: &[u8]) {
+    if item.len() <= 65536 {
+        page.print(storing::sum(item));
     }
-    if image.len() < n {
-        return;
-    }
-    print::start(page, storing::sum(&image[0..n]) as usize);
 }
 
-// The bit is set in the table's word, and read back.
-fn hold(m: &mut [u8], k: u8, p: u8) -> bool {
-    if 16 <= k {
+// As command 59 leaves the word: the part's bit is set in it, and read back.
+fn write(m: &mut [u8], table: u8, part: u8) -> bool {
+    let Some(Cell::Part(k, p)) = Cell::part(table, part) else {
         return false;
-    }
-    if 11 <= p {
-        return false;
-    }
-    let at = Cell::WORDS_OFFSET + Cell::WORD_SIZE * (k as usize);
-    if m.len() < at + 2 {
+    };
+    let at = Cell::WORDS_OFFSET + Cell::WORD_SIZE * usize::from(k);
+    if m.len() < at + Cell::WORD_SIZE {
         return false;
     }
     let w = image::word_at(m, at);
-    image::put_word(m, at, image::set_bit(w, p as u16));
-    image::has_bit(image::word_at(m, at), p as u16)
-}
-
-// As command 59 leaves the word.
-fn write(m: &mut [u8], table: u8, part: u8) -> bool {
-    let named = Cell::part(table, part);
-    match named {
-        Named::Cell(c) => match c {
-            Cell::Part(k, p) => hold(m, k, p),
-            _ => false,
-        },
-        Named::Nothing => false,
-    }
+    image::put_word(m, at, image::set_bit(w, u16::from(p)));
+    image::has_bit(image::word_at(m, at), u16::from(p))
 }
 
 // Whether the bit was read back, and what is held then.
-pub(crate) fn mark(page: &mut Page, m: &mut [u8], table: u8, part: u8) {
-    let set = write(m, table, part);
-    print::start(page, if set { 1 } else { 0 });
-    print::text(page, b" ");
-    held(page, m, table as u32);
+pub(crate) fn mark(page: &mut Page<Stdout>, m: &mut [u8], table: u8, part: u8) {
+    page.print(u8::from(write(m, table, part)));
+    page.text(b" ");
+    held(page, m, u32::from(table));
 }

@@ -6,25 +6,20 @@ mod answers;
 mod cells;
 mod images;
 mod line;
-mod print;
 mod script;
 mod steps;
 
-use image::IMAGE_LENGTH;
 use std::io;
-
-// One byte more than an image has.
-const LONGER: usize = IMAGE_LENGTH + 1;
+use steps::Bench;
 
 // More than the cases take. What lay past it would not be read, and the output would be short of `stdout`.
 const CASES_ROOM: usize = 262144;
 
+// These lines the probe has too, over its own room and its own steps: a function for both would take a room, a maker and the steps, and be as long.
 fn main(rt: HostRuntime) -> io::Result<()> {
     let mut text = [0u8; CASES_ROOM];
     let (n, read) = intake::read_full(&mut rt.stdin(), &mut text);
-    let mut image = [0u8; LONGER];
-    let mut second = [0u8; LONGER];
-    let mut page = print::begin(rt.stdout());
-    steps::lines(&mut page, &text[..n], &mut image, &mut second);
-    read.and(print::end(page))
+    let mut bench = Bench::new(rt.stdout());
+    bench.lines(&text[..n]);
+    read.and(bench.finish())
 }

@@ -1,153 +1,138 @@
 // The form of the cases. A line is steps with a semicolon between them; what stands between two bars is no step but text. A step is a word, of
 // which the first letter counts, then a number with a colon, then bytes: in decimal, or characters in quotes. Each of the three may be missing.
 // Bytes are counted from 1, as document 01 counts those of a body, and `@17` repeats the byte before it until the next is byte 17.
-ghost use Rattle.std.specs.Prelude.{◌≤◌, length};
+ghost use Rattle.std.specs.Prelude.{◌<◌, ◌≤◌, length, IfSome};
+ghost use Rattle.vectors.specs.declared.script.TheConstants.{ROOM};
 
-// Where the text or the step that begins at `from` stops.
-pub(crate) fn stop_from(s: &[u8], from: usize, text: bool) -> usize
-    requires { from ≤ length s.now }
-    ensures { (from ≤ result) × (result ≤ length s.now) }
+// How many bytes of one step there is room for. What has none is dropped.
+const ROOM: usize = 299;
+
+// A text or a step, what it stops at, and what is left behind that.
+#[derive(Clone, Copy)]
+pub struct Piece<'a> {
+    pub bytes: &'a [u8],
+    pub stop: u8,
+    pub left: &'a [u8],
+}
+
+// The first text or step; nothing where none stops.
+pub(crate) fn first_piece(s: &[u8], text: bool) -> Option<Piece<'_>>
+    ensures { IfSome result (λ piece. length piece.left.now < length s.now) }
 {
-    let mut i = from;
-    while i < s.len() {
-        match s[i] {
-            b'|' | b'\n' => return i,
-            b';' => {
-                if !text {
-                    return i;
-                }
-            }
-            _ => {}
-        }
-        i += 1;
-    }
-    s.len()
+    let n = s.iter().position(|c| match *c {
+        b'|' | b'\n' => true,
+        b';' => !text,
+        _ => false,
+    })?;
+    let (bytes, rest) = s.split_at(n);
+    let (stop, left) = rest.split_first()?;
+    Some(Piece {
+        bytes,
+        stop: *stop,
+        left,
+    })
 }
 
-pub(crate) fn fill(s: &mut [u8], b: u8) {
-    let mut i = 0;
-    while i < s.len() {
-        s[i] = b;
-        i += 1;
-    }
-}
-
-// A step as far as it is read: its letter, 0 without a word; the number with a colon; where the next byte goes and what the last one was; whether
-// a quote is open. Then the digits since, if there were any, and whether they stand behind an @.
+// A step as far as it is read: its word's letter, the number with a colon, and its bytes, the room's first `len`; those behind are 0. There is no heap, so a
+// step has the room of the longest. Then the value of the digits since, if there were any, whether they stand behind an @, and whether a quote is open: two
+// flags, since either can be so without the other.
 #[derive(Clone, Copy)]
 pub struct Step {
-    pub letter: u8,
+    pub letter: Option<u8>,
     pub number: u32,
-    pub next: usize,
-    pub last: u8,
-    pub quoted: bool,
-    pub value: u32,
-    pub digits: bool,
-    pub until: bool,
+    room: [u8; ROOM],
+    len: usize,
+    digits: Option<u32>,
+    until: bool,
+    quoted: bool,
+    ghost within: { len ≤ ROOM },
 }
 
-// The digits' end. What has no room in the work array is dropped.
-fn ended(mut step: Step, work: &mut [u8]) -> Step
-    requires { (1 ≤ step.next) × (step.next ≤ length work.old) }
-    ensures { (1 ≤ result.next) × (result.next ≤ length work.new) }
-{
-    let next = step.next;
-    let value = step.value;
-    let to = if step.until { value as usize } else { next + 1 };
-    let b = if step.until {
-        step.last
-    } else {
-        (value % 256) as u8
-    };
-    if !step.digits {
-        return step;
+impl Step {
+    pub(crate) fn read(s: &[u8]) -> Step {
+        let mut step = Step {
+            letter: None,
+            number: 0,
+            room: [0; ROOM],
+            len: 0,
+            digits: None,
+            until: false,
+            quoted: false,
+        };
+        for c in s {
+            step.add(*c);
+        }
+        step.end_digits();
+        step
     }
-    if to < next {
-        return step;
-    }
-    if work.len() < to {
-        return step;
-    }
-    fill(&mut work[next..to], b);
-    step.next = to;
-    step.last = b;
-    step.value = 0;
-    step.digits = false;
-    step.until = false;
-    step
-}
 
-// The step behind one more character, within quotes.
-fn after_quoted(mut step: Step, c: u8, work: &mut [u8]) -> Step
-    requires { (1 ≤ step.next) × (step.next ≤ length work.old) }
-    ensures { (1 ≤ result.next) × (result.next ≤ length work.new) }
-{
-    if c == b'"' {
-        step.quoted = false;
-        return step;
+    pub(crate) fn bytes(&self) -> &[u8] {
+        &self.room[..self.len]
     }
-    step.value = c as u32;
-    step.digits = true;
-    ended(step, work)
-}
 
-// The step behind one more character.
-fn after(mut step: Step, c: u8, work: &mut [u8]) -> Step
-    requires { (1 ≤ step.next) × (step.next ≤ length work.old) }
-    ensures { (1 ≤ result.next) × (result.next ≤ length work.new) }
-{
-    if step.quoted {
-        return after_quoted(step, c, work);
+    // The number as a place or a length. `as`, since there is no From of a u32, and a TryFrom would have a failure that never comes.
+    pub(crate) fn place(&self) -> usize {
+        self.number as usize
     }
-    match c {
-        b'"' => {
-            step.quoted = true;
-            step
+
+    // The first two of its bytes, 0 where there are fewer.
+    pub(crate) fn first_two(&self) -> (u8, u8) {
+        (self.room[0], self.room[1])
+    }
+
+    // One more character. A number that has no digits is 0, as the form has it: what may be missing there is told apart nowhere.
+    fn add(&mut self, c: u8) {
+        if self.quoted {
+            self.add_quoted(c);
+            return;
         }
-        b'0'..=b'9' => {
-            step.value = 10 * (step.value % 10000) + ((c - 48) as u32);
-            step.digits = true;
-            step
-        }
-        b' ' => ended(step, work),
-        b':' => {
-            step.number = step.value;
-            step.value = 0;
-            step.digits = false;
-            step
-        }
-        b'@' => {
-            step.until = true;
-            step
-        }
-        _ => {
-            if step.letter == 0 {
-                step.letter = c;
+        match c {
+            b'"' => self.quoted = true,
+            b'0'..=b'9' => {
+                let digits = self.digits.unwrap_or(0);
+                self.digits = Some(10 * (digits % 10000) + u32::from(c - b'0'));
             }
-            step
+            b' ' => self.end_digits(),
+            b':' => self.number = self.digits.take().unwrap_or(0),
+            b'@' => self.until = true,
+            _ => {
+                if self.letter.is_none() {
+                    self.letter = Some(c);
+                }
+            }
         }
     }
-}
 
-// Byte 1 goes to index 1.
-pub(crate) fn read(s: &[u8], work: &mut [u8]) -> Step
-    requires { 1 ≤ length work.old }
-    ensures { (1 ≤ result.next) × (result.next ≤ length work.new) }
-{
-    let mut step = Step {
-        letter: 0,
-        number: 0,
-        next: 1,
-        last: 0,
-        quoted: false,
-        value: 0,
-        digits: false,
-        until: false,
-    };
-    let mut i = 0;
-    while i < s.len() {
-        step = after(step, s[i], work);
-        i += 1;
+    // One within quotes.
+    fn add_quoted(&mut self, c: u8) {
+        if c == b'"' {
+            self.quoted = false;
+        } else {
+            self.digits = Some(u32::from(c));
+            self.end_digits();
+        }
     }
-    ended(step, work)
+
+    // The end of digits, if there were any: a byte, or behind an @ the number of the byte that comes next. A byte is the remainder by
+    // 256, which `as` leaves as it is: a TryFrom would have a failure that never comes,
+    // and so would one that widens.
+    fn end_digits(&mut self) {
+        if let Some(n) = self.digits.take() {
+            if self.until {
+                let last = self.bytes().last().copied().unwrap_or(0);
+                self.fill((n as usize).saturating_sub(1), last);
+            } else {
+                self.fill(self.len + 1, (n % 256) as u8);
+            }
+            self.until = false;
+        }
+    }
+
+    // The bytes up to this length are b.
+    fn fill(&mut self, len: usize, b: u8) {
+        if self.len <= len && len <= ROOM {
+            self.room[self.len..len].fill(b);
+            self.len = len;
+        }
+    }
 }

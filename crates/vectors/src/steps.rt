@@ -1,189 +1,203 @@
 // The steps in turn. Each prints itself and, behind an equals sign, what comes out; in a line with text, the text and what comes out.
-use crate::print::Page;
-use crate::{answers, cells, images, line, print, script};
+ghost use Rattle.std.specs.Prelude.{◌≤◌};
+ghost use Rattle.vectors.specs.declared.steps.TheConstants.{LONGER};
+
+use crate::script::Step;
+use crate::{answers, cells, images, line, script};
 use image::IMAGE_LENGTH;
 use listener::Listener;
+use page::Page;
 use rules::Switch;
+use std::io::Stdout;
+use std::{io, mem};
 
-// Between two stops of a line: whether text has begun, whether there was any, how much of the image buffer the next step is lent, whether it has changed
-// places with the second one, how the key switch stands, and the listener's record.
-#[derive(Drop)]
+// One byte more than an image has.
+const LONGER: usize = IMAGE_LENGTH + 1;
+
+// What comes before the next stop of a line: a step, which is shown; a text; or a step of a line that has had text, which is not.
+#[derive(Clone, Copy, PartialEq, Eq)]
+pub enum Next {
+    Step,
+    Text,
+    Unshown,
+}
+
+// Between two stops of a line: what comes next, how much of the image buffer it is lent (no heap: the buffer is fixed), whether that has changed places with
+// the second one (two buffers, so a flag says it all), how the key switch stands, and the listener's record.
+#[derive(Clone, Copy)]
 pub struct Turn {
-    pub text: bool,
-    pub bare: bool,
-    pub long: usize,
-    pub turned: bool,
-    pub switch: Switch,
-    pub listener: Listener,
-}
-
-// A step that prints, by its letter: its number, its bytes and the first two of them, and as much of the image as it is lent.
-fn call(
-    page: &mut Page,
-    letter: u8,
-    number: u32,
-    bytes: &[u8],
-    a: u8,
-    b: u8,
+    next: Next,
+    long: usize,
+    turned: bool,
     switch: Switch,
-    image: &mut [u8],
-) {
-    let n = number as usize;
-    match letter {
-        0 => answers::contents(page, bytes, switch, image),
-        b'c' => cells::cell(page, n, a, b),
-        b'd' => answers::line(page, bytes, switch, image),
-        b'g' => images::get(page, image, n, a),
-        b'h' => images::held(page, image, number),
-        b'i' => images::list(page, image, n, false),
-        b'm' => images::mark(page, image, a, b),
-        b'n' => print::start(page, izk::fresh(image, a) as usize),
-        b'q' => images::quantity(page, image, number, 1 < bytes.len(), a, b),
-        b't' => images::total(page, image, n),
-        b'u' => images::usable(page, image, a),
-        b'y' => images::file(page, image),
-        _ => answers::answer_into(page, letter, bytes, switch, n, image),
-    }
+    listener: Listener,
+    ghost within: { long ≤ LONGER },
 }
 
-// The key switch as the byte says.
-fn keyed(turn: Turn, a: u8) -> Turn {
-    let listener = turn.listener;
-    Turn {
-        text: false,
-        bare: turn.bare,
-        long: turn.long,
-        turned: turn.turned,
-        switch: if a == 1 {
-            Switch::Sealed
-        } else {
-            Switch::Unsealed
-        },
-        listener,
-    }
-}
-
-// A step, with what it changes for those behind it in its line.
-fn run(page: &mut Page, s: &[u8], mut turn: Turn, image: &mut [u8], second: &mut [u8]) -> Turn {
-    let bare = turn.bare;
-    let long = turn.long;
-    let turned = turn.turned;
-    let switch = turn.switch;
-    if image.len() < long {
-        return turn;
-    }
-    let mut work = [0u8; 300];
-    let step = script::read(s, &mut work);
-    let letter = step.letter;
-    let number = step.number;
-    let next = step.next;
-    let a = work[1];
-    let b = work[2];
-    let bytes = &work[1..next];
-    match letter {
-        b'f' => {
-            izk::fresh(&mut image[0..long], a);
-        }
-        b'j' => answers::join(bytes, number as usize, image),
-        b'k' => return keyed(turn, a),
-        b'e' => turn.turned = !turned,
-        b'l' => turn.long = number as usize,
-        b'p' => images::put(image, number as usize, bytes),
-        b'r' => turn.listener = line::recorded(number as usize, a, bytes),
-        b'w' => script::fill(image, a),
-        _ => {
-            if !bare {
-                print::text(page, b" = ");
-            }
-            match letter {
-                b'o' => turn.listener = line::off(page, turn.listener, bytes),
-                b'v' => images::moved(page, &image[0..long], a, number as usize, second),
-                _ => call(
-                    page,
-                    letter,
-                    number,
-                    bytes,
-                    a,
-                    b,
-                    switch,
-                    &mut image[0..long],
-                ),
-            }
+impl Turn {
+    // As a line starts.
+    fn new() -> Turn {
+        Turn {
+            next: Next::Step,
+            long: IMAGE_LENGTH,
+            turned: false,
+            switch: Switch::Unsealed,
+            listener: listener::idle(),
         }
     }
-    turn
 }
 
-fn line_start() -> Turn {
-    Turn {
-        text: false,
-        bare: false,
-        long: IMAGE_LENGTH,
-        turned: false,
-        switch: Switch::Unsealed,
-        listener: listener::idle(),
-    }
-}
-
-// The text or the step before a stop, and the stop.
-fn piece(
-    page: &mut Page,
-    s: &[u8],
-    stop: u8,
-    mut turn: Turn,
-    image: &mut [u8],
-    second: &mut [u8],
-) -> Turn {
-    let text = turn.text;
-    let bare = turn.bare;
-    if stop == b'|' {
-        if text {
-            print::text(page, s);
-        }
-        turn.text = !text;
-        turn.bare = true;
-        return turn;
-    }
-    if !bare {
-        print::text(page, s);
-    }
-    let after = run(page, s, turn, image, second);
-    if stop == b';' {
-        if !bare {
-            print::text(page, b";");
-        }
-        return after;
-    }
-    print::text(page, b"\n");
-    line_start()
-}
-
-// The buffers in the places that they have now.
-fn piece_of(
-    page: &mut Page,
-    s: &[u8],
-    stop: u8,
+// Where it prints, the two buffers in the places that they have now, and the line's turn.
+#[derive(Drop)]
+pub struct Bench {
+    page: Page<Stdout>,
+    image: [u8; LONGER],
+    second: [u8; LONGER],
     turn: Turn,
-    image: &mut [u8],
-    second: &mut [u8],
-) -> Turn {
-    if turn.turned {
-        piece(page, s, stop, turn, second, image)
-    } else {
-        piece(page, s, stop, turn, image, second)
-    }
 }
 
-// Every line has its end.
-pub(crate) fn lines(page: &mut Page, script: &[u8], image: &mut [u8], second: &mut [u8]) {
-    let mut turn = line_start();
-    let mut from = 0;
-    while from < script.len() {
-        let stop = script::stop_from(script, from, turn.text);
-        if stop == script.len() {
+impl Bench {
+    pub(crate) fn new(out: Stdout) -> Bench {
+        Bench {
+            page: Page::new(out),
+            image: [0; LONGER],
+            second: [0; LONGER],
+            turn: Turn::new(),
+        }
+    }
+
+    // Whether all of it was printed.
+    pub(crate) fn finish(self) -> io::Result<()> {
+        self.page.finish()
+    }
+
+    // Every line has its end. No iterator gives the pieces: where one stops depends on whether the last began a text.
+    pub(crate) fn lines(&mut self, cases: &[u8]) {
+        let mut left = cases;
+        while let Some(piece) = script::first_piece(left, self.turn.next == Next::Text) {
+            self.piece(piece.bytes, piece.stop);
+            left = piece.left;
+        }
+    }
+
+    // The text or the step before a stop, and the stop.
+    fn piece(&mut self, s: &[u8], stop: u8) {
+        if stop == b'|' {
+            self.bar(s);
             return;
         }
-        turn = piece_of(page, &script[from..stop], script[stop], turn, image, second);
-        from = stop + 1;
+        self.echo(s);
+        self.run(&Step::read(s));
+        if stop == b';' {
+            self.echo(b";");
+        } else {
+            self.page.text(b"\n");
+            self.end_line();
+        }
+    }
+
+    // A text begins at a bar, or ends at it and is shown.
+    fn bar(&mut self, s: &[u8]) {
+        if self.turn.next == Next::Text {
+            self.page.text(s);
+            self.turn.next = Next::Unshown;
+        } else {
+            self.turn.next = Next::Text;
+        }
+    }
+
+    // A line with text shows that in place of its steps.
+    fn echo(&mut self, s: &[u8]) {
+        if self.turn.next == Next::Step {
+            self.page.text(s);
+        }
+    }
+
+    fn end_line(&mut self) {
+        if self.turn.turned {
+            self.exchange();
+        }
+        self.turn = Turn::new();
+    }
+
+    fn exchange(&mut self) {
+        mem::swap(&mut self.image, &mut self.second);
+        self.turn.turned = !self.turn.turned;
+    }
+
+    // A step. The letters are the script's own form, and mean something here, in `show` and in `show_of` alone: an enum would have them once more.
+    fn run(&mut self, step: &Step) {
+        let number = step.place();
+        let bytes = step.bytes();
+        let (a, _) = step.first_two();
+        match step.letter {
+            Some(b'e') => self.exchange(),
+            Some(b'f') => {
+                let long = self.turn.long;
+                // What it has done the next step shows.
+                let _ = izk::fresh(&mut self.image[..long], a);
+            }
+            Some(b'j') => answers::join(bytes, number, &mut self.image),
+            Some(b'k') => {
+                self.turn.switch = match a {
+                    1 => Switch::Sealed,
+                    _ => Switch::Unsealed,
+                }
+            }
+            Some(b'l') => self.turn.long = number.min(LONGER),
+            Some(b'p') => images::put(&mut self.image, number, bytes),
+            Some(b'r') => self.turn.listener = line::recorded(number, bytes),
+            Some(b'w') => self.image.fill(a),
+            _ => {
+                self.echo(b" = ");
+                self.show(step);
+            }
+        }
+    }
+
+    // A step that prints, and not of the image alone.
+    fn show(&mut self, step: &Step) {
+        let long = self.turn.long;
+        let (a, _) = step.first_two();
+        match step.letter {
+            Some(b'o') => line::off(&mut self.page, &mut self.turn.listener, step.bytes()),
+            Some(b'v') => {
+                if let Some(target) = self.second.get_mut(..step.place()) {
+                    images::moved(&mut self.page, &self.image[..long], a, target);
+                }
+            }
+            _ => {
+                let image = &mut self.image[..];
+                show_of(&mut self.page, step, self.turn.switch, &mut image[..long]);
+            }
+        }
+    }
+}
+
+// What comes out of the image, or of a frame that is served on it.
+fn show_of(page: &mut Page<Stdout>, step: &Step, switch: Switch, image: &mut [u8]) {
+    let number = step.place();
+    let bytes = step.bytes();
+    let (a, b) = step.first_two();
+    match step.letter {
+        None => answers::contents(page, bytes, switch, image),
+        Some(b'a') => answers::answer(page, number, |out| izk::take_apart(bytes, out)),
+        Some(b'b') => answers::answer(page, number, |out| izk::build(bytes, out)),
+        Some(b'c') => cells::cell(page, number, a, b),
+        Some(b'd') => answers::line(page, bytes, switch, image),
+        Some(b'g') => images::get(page, image, number, a),
+        Some(b'h') => images::held(page, image, step.number),
+        Some(b'i') => images::list(page, image, number, false),
+        Some(b'm') => images::mark(page, image, a, b),
+        Some(b'n') => page.print(page::number(&izk::fresh(image, a))),
+        Some(b'q') => images::quantity(page, image, step.number, bytes),
+        Some(b't') => {
+            if let Some(item) = image.get(..number) {
+                images::total(page, item);
+            }
+        }
+        Some(b'u') => images::usable(page, image, a),
+        Some(b'y') => images::file(page, image),
+        Some(_) => answers::answer(page, number, |out| izk::serve(bytes, switch, image, out)),
     }
 }

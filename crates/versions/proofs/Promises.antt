@@ -1,5 +1,5 @@
--- What the promises of the two moves give a caller: one outcome, and the theorems in terms of what was returned and left. Assumes nothing.
-use mathlib.Core.Path.{◌≡◌, sym, ap, ◌∙◌}
+-- What the promise of a move gives a caller: one outcome, and the theorems in terms of what was returned and left. Assumes nothing.
+use mathlib.Core.Path.{◌≡◌, refl, sym, ap, ◌∙◌}
 use mathlib.Core.Logic.{◌≢◌}
 use mathlib.Core.List.{List}
 use mathlib.Core.Bool.{true}
@@ -8,7 +8,11 @@ use native.Mathlib.Omega.{arith}
 use lib.ListN.{length, get_or}
 use Rattle.laws.specs.Bytes.{slice, sum_of}
 use Rattle.laws.proofs.Bytes.{Bytes}
-use Rattle.output.specs.declared.answer.Answer.{Answer}
+use Rattle.std.specs.Prelude.{Result}
+use Rattle.output.specs.declared.refusal.Refusal.{Refusal}
+use Rattle.output.specs.Refusal.{number_in}
+use Rattle.output.specs.Output.{Answer}
+use Rattle.output.proofs.Refusals.{one_result}
 use Rattle.image.specs.declared.version.Version.{Version}
 use Rattle.image.specs.declared.version.Version.TheVariants.{V1, V2}
 use Rattle.image.specs.Version.{current, version_number, image_length}
@@ -37,6 +41,11 @@ module _ (v : Version) (m t : List ℕ) where
   -- the promise leaves one outcome
   pub move_one_outcome : (r s : ℕ) (n o : List ℕ) → Makes (moved v m t) r n → Makes (moved v m t) s o → (r ≡ s) × (n ≡ o)
   move_one_outcome = makes_one_outcome (moved v m t)
+
+  -- said of the results that are returned
+  pub move_one_result : (r s : Result (Unit {0}) Refusal) (n o : List ℕ) → Makes (moved v m t) (number_in r) n → Makes (moved v m t) (number_in s) o
+      → (r ≡ s) × (n ≡ o)
+  move_one_result r s n o x y = let z = move_one_outcome (number_in r) (number_in s) n o x y in (one_result tt r s z.0 refl, z.1)
 
   module _ (r : ℕ) (n : List ℕ) (p : Makes (moved v m t) r n) where
     -- 0: source and target were right, and the target is the source in the other version

@@ -1,5 +1,6 @@
 -- Of two images that hold the same, the first is the second moved down, and the second is the first moved up if its words are the two bytes of each sum.
 -- So a move there and back gives the same bytes, and back and there too where the words were true. Assumes nothing.
+use Rattle.std.specs.Prelude.{Option}
 use mathlib.Core.Path.{◌≡◌, sym, ap, ◌∙◌}
 use mathlib.Core.List.{List}
 use mathlib.Core.Bool.{true}
@@ -10,7 +11,6 @@ use lib.ListN.{length, get_or}
 use lib.Seq.{ext_get_or}
 use Rattle.laws.proofs.Bytes.{In, Bytes}
 use Rattle.image.specs.declared.cell.Cell.{Cell}
-use Rattle.image.specs.declared.cell.Signed.{Signed}
 use Rattle.image.specs.declared.version.Version.{Version}
 use Rattle.image.specs.declared.version.Version.TheVariants.{V1, V2}
 use Rattle.image.specs.Version.{image_length}
@@ -39,7 +39,7 @@ module _ (m : List ℕ) (long : image_length V1 ≤ length m) where
   pub up_true : TrueWords (in_version V2 m)
   up_true e item = go (counts_view e) item
     where
-      go : {x : Signed} → Counts e x → is_item e ≡ true → word_kept x (in_version V2 m) ≡ full_sum e (in_version V2 m)
+      go : {x : Option ℕ} → Counts e x → is_item e ≡ true → word_kept x (in_version V2 m) ≡ full_sum e (in_version V2 m)
       go (nowhere a) h = absurd (a h)
       go (in_word i a) h =
           let (l, is) = a.is h in

@@ -1,5 +1,6 @@
 -- A true word, as the two bytes of its sum. The low one has to be a byte for that, which it is in every lent buffer, and which no write changes. Assumes
 -- nothing.
+use Rattle.std.specs.Prelude.{Option}
 use mathlib.Core.Path.{◌≡◌, sym, ap, ◌∙◌}
 use mathlib.Core.List.{List, []}
 use Prim.Native.Nat.{ℕ, ◌+◌, ◌*◌, ◌/◌, ◌%◌, ◌≤◌, ◌<◌}
@@ -10,7 +11,6 @@ use Rattle.laws.specs.Bytes.{slice, lay, padded, two, word_at}
 use Rattle.laws.proofs.Bytes.{length-lay, lay_in, lay_out, length-padded}
 use Rattle.frame.specs.Apart.{contents_of}
 use Rattle.image.specs.declared.cell.Cell.{Cell}
-use Rattle.image.specs.declared.cell.Signed.{Signed}
 use Rattle.image.specs.declared.version.Version.TheVariants.{V1, V2}
 use Rattle.image.specs.Version.{image_length}
 use Rattle.image.specs.Cell.{offset, size, item_at}
@@ -43,7 +43,7 @@ unfolding word_at
 summed n t b i l = record { high = high _ _ _ (b i l) is; low = low _ _ _ (b i l) is }
   where
     is : 256 * get_or n (kept_offset i) 0 + get_or n (kept_offset i + 1) 0 ≡ full_sum (item_at i) n
-    is = sym (ap (λ (x : Signed). word_kept x n) (item_word i l)) ∙ t (item_at i) (item_is i l)
+    is = sym (ap (λ (x : Option ℕ). word_kept x n) (item_word i l)) ∙ t (item_at i) (item_is i l)
 
     high : (x y s : ℕ) → y < 256 → 256 * x + y ≡ s → x ≡ s / 256
     high x y s h e = omega arith
@@ -84,7 +84,7 @@ module _ (m : List ℕ) (long : length m ≡ image_length V2) (d : Cell) (bs : L
           rw (← e, z) (omega arith)
       go (no n) = rw (lay_out under (kept_offset k) (two w) (kept_offset i + 1) (λ p. n (omega arith))) (under_low b i l)
 
-  amended_low : {x : Signed} → Counts d x → Low m → Low (touched_all old new (amending x []) under)
+  amended_low : {x : Option ℕ} → Counts d x → Low m → Low (touched_all old new (amending x []) under)
   amended_low (nowhere a) b = under_low b
   amended_low (in_word k a) b = λ i l. word_low k (amended old new (word_at under (kept_offset k))) i b l
 

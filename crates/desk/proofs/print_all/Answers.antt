@@ -1,5 +1,5 @@
 -- What a write that succeeded appended joins what was written before it; of the portion behind it the text and the image follow. Assumes nothing.
-use Rattle.std.proofs.Common.{◌≡◌, ℕ, ◌≤◌, List, [], ◌++◌, Option, Result, Ok, Err, OnOk, arith, length, take, sym, ap, ◌∙◌, subst, append_assoc, append-nil, length-take}
+use Rattle.std.proofs.Common.{◌≡◌, ◌≤◌, length, ℕ, List, [], ◌++◌, Option, Result, Ok, Err, OnOk, arith, sym, ap, ◌∙◌, subst, append_assoc, append-nil}
 use Rattle.std.specs.Result.{result_and}
 use Rattle.std.specs.Io.KnownBytes.{Appends}
 use Rattle.std.proofs.KnownBytes.{Appends-nil, Appends-trans}
@@ -39,14 +39,14 @@ loop-portion-init g c =
       said = ([], Appends-nil _, text_after_start _ _ _ _ _ _ c.requires.room r.ensures);
     }
 
-pub returns-then-n-portion-clause-image : goal.returns-then-n-portion-clause-image
-returns-then-n-portion-clause-image g c =
-    let end : length (take c.args.n c.args.buffer.now) ≤ c.loop-portion.portion.from = omega (arith, length-take c.args.n c.args.buffer.now) in
+pub returns-then-input-portion-clause-image : goal.returns-then-input-portion-clause-image
+returns-then-input-portion-clause-image g c =
+    let end : length c.args.input.now ≤ c.loop-portion.portion.from = omega arith in
     sym (at_end _ _ _ end) ∙ c.loop-portion.invariant.image
 
-pub returns-then-n-portion-clause-text : goal.returns-then-n-portion-clause-text
-returns-then-n-portion-clause-text g c =
-    let end : length (take c.args.n c.args.buffer.now) ≤ c.loop-portion.portion.from = omega (arith, length-take c.args.n c.args.buffer.now) in
+pub returns-then-input-portion-clause-text : goal.returns-then-input-portion-clause-text
+returns-then-input-portion-clause-text g c =
+    let end : length c.args.input.now ≤ c.loop-portion.portion.from = omega arith in
     rw c.and-written.ensures
     (done _ _ _ _ _ (nothing_left _ _ _ end) (both _ _ _ _ _ _ _ _ c.loop-portion.invariant.said c.write_all.ensures.bytes))
 

@@ -11,10 +11,10 @@ invariant-loop-portion g l = record {
   fits : l.portion.len ≤ length l.text;
   text_length : length l.text ≡ length l.fn.text;
   image_length : length l.m ≡ length l.fn.m;
-  image : end_image (take l.n l.buffer) l.portion.from l.m ≡ desk_image (take l.n l.buffer) l.fn.m;
+  image : end_image l.input l.portion.from l.m ≡ desk_image l.input l.fn.m;
   said : OnOk l.written ((bytes : List ℕ) × Appends (g.W.Write.contents l.fn.output) (g.W.Write.contents l.output) bytes
-      × (bytes ++ (take l.portion.len l.text ++ end_text (take l.n l.buffer) l.portion.from l.m) ≡ desk_text (take l.n l.buffer)));
+      × (bytes ++ (take l.portion.len l.text ++ end_text l.input l.portion.from l.m) ≡ desk_text l.input));
 }
 
 abbrev pub decreases-loop-portion : goal.decreases-loop-portion
-decreases-loop-portion g l = l.n - l.portion.from
+decreases-loop-portion g l = length l.input - l.portion.from

@@ -12,4 +12,4 @@ put_all-requires c =
 pub returns : goal.returns
 returns c =
     let laid = numbered-laid c.args.version c.args.source.now c.args.target.now c.requires.0 c.requires.1 in
-    c.put_word.ensures ∙ rw (c.number.ensures, c.put_all.ensures.laid) laid
+    c.put_word.ensures ∙ rw (c.from.ensures, c.number.ensures, c.put_all.ensures.laid) laid

@@ -1,6 +1,5 @@
 -- What is left of the signatures, laid where the next one goes, gives what all of them give. Assumes nothing.
 use mathlib.Core.Path.{◌≡◌}
-use Prim.Native.Nat.{◌-◌, ◌≤◌}
 use lib.ListN.{length}
 use Rattle.laws.specs.Bytes.{lay}
 use Rattle.image.specs.declared.version.Version.TheVariants.{V2}
@@ -13,8 +12,5 @@ use Rattle.versions.proofs.put_signatures.Given as goal
 
 abbrev pub invariant-loop-i : goal.invariant-loop-i
 invariant-loop-i l =
-    (l.i ≤ 32) × (l.at ≡ kept_offset l.i) × (length l.target ≡ image_length V2)
-    × (lay l.target l.at (from l.i l.source) ≡ lay l.initial.target (kept_offset 0) (signatures items l.source))
-
-abbrev pub decreases-loop-i : goal.decreases-loop-i
-decreases-loop-i l = 32 - l.i
+    (length l.target ≡ image_length V2)
+    × (lay l.target (kept_offset l.i) (from l.i l.source) ≡ lay l.initial.target (kept_offset 0) (signatures items l.source))

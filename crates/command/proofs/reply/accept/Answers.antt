@@ -11,15 +11,15 @@ use Rattle.command.proofs.reply.accept.Goals as goal
 
 pub leave-requires : goal.leave-requires
 leave-requires c =
-    (c.requires.0.act, image_long _ c.requires.1)
+    image_long _ c.requires.0
 
 pub end-requires : goal.end-requires
 end-requires c =
-    let reply_at : List ℕ = reply_of current c.args.echo c.args.act c.args.cell c.args.body.now c.args.m.now in
-    omega (arith, c.begin-start.ensures.opened.past, spells_past {bytes = reply_at} c.put_reply-last.ensures, reply_fits c.requires.0 _ c.requires.1)
+    let reply_at : List ℕ = reply_of current c.args.order.echo c.args.order.act c.args.order.cell c.args.order.body.now c.args.m.now in
+    omega (arith, c.begin-start.ensures.opened.past, spells_past {bytes = reply_at} c.put_reply-last.ensures, reply_fits c.args.order.fits _ c.requires.0)
 
 pub returns : goal.returns
 returns c =
-    let reply_at : List ℕ = reply_of current c.args.echo c.args.act c.args.cell c.args.body.now c.args.m.now in
+    let reply_at : List ℕ = reply_of current c.args.order.echo c.args.order.act c.args.order.cell c.args.order.body.now c.args.m.now in
     written-sends _ _ _ reply_at c.leave.ensures
     (frame_written reply_at _ _ _ _ _ _ _ c.begin-start.ensures c.put_reply-last.ensures c.end.ensures)

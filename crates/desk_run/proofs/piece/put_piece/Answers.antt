@@ -11,24 +11,35 @@ use Rattle.desk_run.proofs.piece.put_piece.Goals as goal
 pub slice_bounds-reply-end : goal.slice_bounds-reply-end
 unfolding zeros
 slice_bounds-reply-end c =
-    let p = c.serve-answer.ensures in
+    let p = c.in-Ok.ensures in
     omega (arith, reply_short current _ _ _ _ _ p, reply_long current _ _ _ _ _ p)
 
-pub slice_bounds-put_line-end : goal.slice_bounds-put_line-end
+pub slice_bounds-put_reply-end : goal.slice_bounds-put_reply-end
 unfolding zeros
-slice_bounds-put_line-end c =
-    let p = c.serve-answer.ensures in
+slice_bounds-put_reply-end c =
+    let p = c.in-Ok.ensures in
     sym (length-take-le _ _ (omega (arith, reply_short current _ _ _ _ _ p, reply_long current _ _ _ _ _ p)))
 
-pub put_line-requires : goal.put_line-requires
+pub put_reply-requires : goal.put_reply-requires
 unfolding zeros
-put_line-requires c =
-    let p = c.serve-answer.ensures in
-    omega (arith, line-short _ c.serve-answer.result.len _ (reply_number current _ _ _ _ _ p) (reply_long current _ _ _ _ _ p))
+put_reply-requires c =
+    let p = c.in-Ok.ensures in
+    omega (arith, line-short 0 c.in-Ok.n _ (omega arith) (reply_long current _ _ _ _ _ p))
 
-pub returns : goal.returns
+pub put_refusal-requires : goal.put_refusal-requires
+unfolding zeros
+put_refusal-requires c =
+    let p = c.in-Err.ensures in
+    omega (arith, line-short _ 0 _ (reply_number current _ _ _ _ _ p) (reply_long current _ _ _ _ _ p))
+
+pub returns-in-Ok : goal.returns-in-Ok
 unfolding left zeros
-returns c =
-    let p = c.serve-answer.ensures in
-    let e = line_is current _ _ _ _ _ p in
-    (rw e at c.put_line.ensures, p.image_is)
+returns-in-Ok c =
+    let p = c.in-Ok.ensures in
+    (rw (line_is current _ _ _ _ _ p) at c.put_reply.ensures, p.image_is)
+
+pub returns-in-Err : goal.returns-in-Err
+unfolding left zeros
+returns-in-Err c =
+    let p = c.in-Err.ensures in
+    (rw (line_is current _ _ _ _ _ p) at c.put_refusal.ensures, p.image_is)

@@ -8,9 +8,12 @@ use Rattle.desk_run.specs.Desk.{ran}
 use Rattle.desk_run.proofs.turns.run.Given as goal
 
 abbrev pub invariant-loop-next : goal.invariant-loop-next
-invariant-loop-next l =
-    (l.end.at ≤ length l.text) × (length l.text ≡ length l.initial.text) × (length l.m ≡ length l.initial.m)
-    × (ran current l.next l.end.at l.m l.text (pieces (drop l.next l.input)) ≡ ran current l.from 0 l.initial.m l.initial.text (pieces (drop l.from l.input)))
+invariant-loop-next l = record {
+  fits : l.end.at ≤ length l.text;
+  text_length : length l.text ≡ length l.initial.text;
+  image_length : length l.m ≡ length l.initial.m;
+  rest : ran current l.next l.end.at l.m l.text (pieces (drop l.next l.input)) ≡ ran current l.from 0 l.initial.m l.initial.text (pieces (drop l.from l.input));
+}
 
 abbrev pub decreases-loop-next : goal.decreases-loop-next
 decreases-loop-next l = length l.input - l.next

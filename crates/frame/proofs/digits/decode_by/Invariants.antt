@@ -2,8 +2,8 @@
 -- nothing.
 use mathlib.Core.Path.{◌≡◌}
 use mathlib.Core.Bool.{true, ◌&&◌}
-use Prim.Native.Nat.{◌+◌, ◌-◌, ◌*◌, ◌/◌, ◌%◌, ◌≤◌, ◌<◌}
-use lib.ListN.{length, drop}
+use Prim.Native.Nat.{◌+◌, ◌*◌, ◌%◌, ◌<◌}
+use lib.ListN.{drop}
 use lib.Dec.{ltb}
 use Rattle.laws.specs.Bytes.{lay, sum_of}
 use Rattle.frame.specs.Digits.{all_digits, bytes_of}
@@ -11,9 +11,6 @@ use Rattle.frame.proofs.digits.decode_by.Given as goal
 
 abbrev pub invariant-loop-k : goal.invariant-loop-k
 invariant-loop-k l =
-    (l.k ≤ length l.s / 2) × (length l.work ≡ length l.initial.work) × (l.total < 256) × ((ltb l.seen 16 && all_digits (drop (2 * l.k) l.s)) ≡ all_digits l.s)
+    (l.total < 256) × ((ltb l.seen 16 && all_digits (drop (2 * l.k) l.s)) ≡ all_digits l.s)
     × (all_digits l.s ≡ true → (l.total + sum_of (bytes_of (drop (2 * l.k) l.s))) % 256 ≡ sum_of (bytes_of l.s) % 256)
     × (all_digits l.s ≡ true → lay l.work l.k (bytes_of (drop (2 * l.k) l.s)) ≡ lay l.initial.work 0 (bytes_of l.s))
-
-abbrev pub decreases-loop-k : goal.decreases-loop-k
-decreases-loop-k l = l.n - l.k

@@ -17,6 +17,11 @@ returns-then-address-eq0 c = rw (eq-eqb _ _ c.if-m-ne-IMAGE_LENGTH.false, eq-eqb
 pub returns : goal.returns
 unfolding freshened judged
 returns c =
-    let m = c.args.m.now in
-    rw (eq-eqb _ _ c.if-m-ne-IMAGE_LENGTH.false, ne_eqb _ _ c.if-address-eq0.false, c.number.ensures)
-    (record { number_is = refl; image_is = fresh_is _ m _ c.if-m-ne-IMAGE_LENGTH.false c.clear.ensures })
+    let zeroed = c.fill.ensures.after (λ y e. e) in
+    rw (eq-eqb _ _ c.if-m-ne-IMAGE_LENGTH.false, ne_eqb _ _ c.if-address-eq0.false)
+    (record {
+      number_is = refl;
+      image_is =
+          rw (c.put_word.ensures, c.copy_from_slice.ensures.after, c.from.ensures, c.number.ensures)
+          (fresh_is _ _ _ c.if-m-ne-IMAGE_LENGTH.false zeroed);
+    })

@@ -1,32 +1,44 @@
--- Each early return is the test that the definition has there. Assumes nothing.
-use mathlib.Core.Path.{◌≡◌, sym, ◌∙◌}
+-- What is returned is the code's `&&` of five tests, of which each stands for the definition's. Assumes nothing.
+use mathlib.Core.Path.{sym, ◌∙◌}
 use mathlib.Core.Bool.{and-false}
-use lib.ListN.{length}
-use borrow.Author.Tests.{eq-eqb, ne_eqb}
-use Rattle.image.specs.Version.{image_length}
+use borrow.Author.Tests.{eq-eqb, ne_eqb, eqb-true}
+use Rattle.laws.proofs.Tests.{never}
 use Rattle.image.specs.Usable.{address_ok, usable}
+use Rattle.image.proofs.usable.is_usable.Goals.{then-m-ne0, else-m-ne0, then-mark_ok, else-mark_ok, then-m-length, else-m-length}
 use Rattle.image.proofs.usable.is_usable.Goals as goal
 
-pub returns-then-m-length : goal.returns-then-m-length
-unfolding usable
-returns-then-m-length c = rw (ne_eqb _ _ (rw c.length.ensures at c.if-m-length.true))
-
-pub returns-then-not-mark_ok : goal.returns-then-not-mark_ok
-unfolding usable
-returns-then-not-mark_ok c = rw (sym c.mark_ok.ensures ∙ c.if-not-mark_ok.true, and-false)
-
-pub returns-then-m-eq0 : goal.returns-then-m-eq0
+pub returns-then-counts_ok : goal.returns-then-counts_ok
 unfolding usable address_ok
-returns-then-m-eq0 c = simp (c.if-m-eq0.true, and-false)
+returns-then-counts_ok c =
+    elim c.if-m-ne0.branch [
+      | then-m-ne0 w ↦
+          elim c.if-mark_ok.branch [
+            | then-mark_ok v ↦
+                elim c.if-m-length.branch [
+                  | then-m-length u ↦
+                      let mark = sym u.mark_ok.ensures ∙ sym u.value-is ∙ v.if-mark_ok.true in
+                      let address = sym v.value-is ∙ w.if-m-ne0.true in
+                      let counts = sym w.counts_ok.ensures ∙ sym w.value-is ∙ c.if-counts_ok.true in
+                      rw (eq-eqb _ _ (u.if-m-length.true ∙ c.length.ensures), mark, address, counts) c.words_ok.ensures
+                  | else-m-length u ↦ absurd (u.if-m-length.false (eqb-true _ _ (sym u.value-is ∙ v.if-mark_ok.true)))
+                ]
+            | else-mark_ok v ↦ absurd (never (sym v.if-mark_ok.false ∙ sym v.value-is ∙ w.if-m-ne0.true))
+          ]
+      | else-m-ne0 w ↦ absurd (never (sym w.if-m-ne0.false ∙ sym w.value-is ∙ c.if-counts_ok.true))
+    ]
 
-pub returns-then-not-counts_ok : goal.returns-then-not-counts_ok
-unfolding usable
-returns-then-not-counts_ok c = simp (sym c.counts_ok.ensures ∙ c.if-not-counts_ok.true, and-false)
-
-pub returns : goal.returns
+pub returns-else-counts_ok : goal.returns-else-counts_ok
 unfolding usable address_ok
-returns c =
-    let long : length c.args.m.now ≡ image_length c.args.version = rw c.length.ensures at c.if-m-length.false in
-    let mark = sym c.mark_ok.ensures ∙ c.if-not-mark_ok.false in
-    let counts = sym c.counts_ok.ensures ∙ c.if-not-counts_ok.false in
-    rw (eq-eqb _ _ (long), mark, ne_eqb _ _ c.if-m-eq0.false, counts) c.words_ok.ensures
+returns-else-counts_ok c =
+    elim c.if-m-ne0.branch [
+      | then-m-ne0 w ↦ c.if-counts_ok.false ∙ sym (rw (sym w.counts_ok.ensures ∙ sym w.value-is ∙ c.if-counts_ok.false) (simp and-false))
+      | else-m-ne0 w ↦
+          elim c.if-mark_ok.branch [
+            | then-mark_ok v ↦ c.if-counts_ok.false ∙ sym (rw (sym v.value-is ∙ w.if-m-ne0.false) (simp and-false))
+            | else-mark_ok v ↦
+                elim c.if-m-length.branch [
+                  | then-m-length u ↦ c.if-counts_ok.false ∙ sym (rw (sym u.mark_ok.ensures ∙ sym u.value-is ∙ v.if-mark_ok.false) (simp and-false))
+                  | else-m-length u ↦ c.if-counts_ok.false ∙ sym (rw (ne_eqb _ _ (rw c.length.ensures at u.if-m-length.false)))
+                ]
+          ]
+    ]

@@ -1,38 +1,16 @@
--- The address first, then the command's rule and what the switch lets: each early return is the check that the definition has there; check 16 goes by
--- the act. Assumes nothing.
-use mathlib.Core.Path.{sym, ap, ◌∙◌}
-use mathlib.Core.Bool.{true, false}
-use Prim.Native.Nat.{ℕ}
-use borrow.Author.Tests.{eq-eqb, ne_eqb}
-use Rattle.laws.specs.Checks.{judged}
-use Rattle.rules.specs.Rules.{commands, rule_of}
-use Rattle.rules.specs.Verdict.{sought, recognised}
-use Rattle.rules.proofs.Sealing.{switched}
+-- What passes the checks of its command's rule fits, as every command does. Assumes nothing.
+use mathlib.Core.Path.{◌≡◌}
+use Rattle.std.specs.Prelude.{Some}
+use Rattle.std.proofs.Common.{rules}
+use Rattle.rules.specs.Order.{Accepted}
+use Rattle.rules.specs.Rules.{byte, commands, rule_of}
+use Rattle.rules.specs.Verdict.{tried}
+use Rattle.rules.proofs.Fit.{found_fits}
 use Rattle.rules.proofs.verdict.recognise.Goals as goal
 
-pub returns-then-byte-address : goal.returns-then-byte-address
-unfolding recognised judged
-returns-then-byte-address c = rw (← c.byte.ensures, ne_eqb _ _ c.if-byte-address.true)
-
-pub returns-then-not-lets_do : goal.returns-then-not-lets_do
-returns-then-not-lets_do c =
-    switched _ _ _ _ (sym c.byte.ensures ∙ c.if-byte-address.false)
-    (ap (λ (k : ℕ). rule_of k commands) (sym c.byte-2.ensures) ∙ sym c.rule_of.ensures ∙ c.in-Rule.is)
-    false (sym c.lets_do.ensures ∙ c.if-not-lets_do.true)
-
-pub returns-in-Nothing : goal.returns-in-Nothing
-unfolding recognised sought judged
-returns-in-Nothing c =
-    rw (
-      ← c.byte.ensures,
-      eq-eqb _ _ c.if-byte-address.false,
-      ← c.byte-2.ensures,
-      sym c.rule_of.ensures ∙ c.in-Nothing.is,
-    )
-
-pub returns-else-not-lets_do : goal.returns-else-not-lets_do
-returns-else-not-lets_do c =
-    c.tried.ensures
-    ∙ switched _ _ _ _ (sym c.byte.ensures ∙ c.if-byte-address.false)
-    (ap (λ (k : ℕ). rule_of k commands) (sym c.byte-2.ensures) ∙ sym c.rule_of.ensures ∙ c.in-Rule.is)
-    true (sym c.lets_do.ensures ∙ c.if-not-lets_do.false)
+pub invariant_of-result : goal.invariant_of-result
+invariant_of-result c =
+    let r = c.in_ok-rule.rule in
+    let found : rule_of (byte c.args.body.now 2) commands ≡ Some r = search rules in
+    let passed : tried r c.args.body.now ≡ Accepted r.echo r.act c.in_ok-cell.cell = search rules in
+    record { fits = rw passed at (found_fits (byte c.args.body.now 2) r c.args.body.now found) }

@@ -1,17 +1,19 @@
--- The total, with the sum of what remains, is the sum of all. Assumes nothing.
+-- The chain adds up as the library's sum does, which is the definition's. Assumes nothing.
 use mathlib.Core.Path.{◌≡◌}
+use mathlib.Core.List.{List, [], ◌∷◌}
+use Prim.Native.Nat.{ℕ, ◌+◌}
 use native.Mathlib.Omega.{arith}
+use Rattle.std.proofs.Common.{rules}
+use Rattle.std.specs.List.{fold, sum}
 use Rattle.laws.specs.Bytes.{sum_of}
-use Rattle.laws.proofs.Sums.{sum_next, sum_done}
 use Rattle.storing.proofs.signature.sum.Goals as goal
 
-pub loop-i-preserved : goal.loop-i-preserved
-loop-i-preserved c =
-    let next = sum_next c.args.item.now c.loop-i.i c.loop-i-test.true in
-    (omega arith, omega (arith, c.shared_slice_known-1.given c.loop-i.i), omega (arith, next))
+added : (l : List ℕ) (n : ℕ) → fold (λ a x. a + x) n l ≡ n + sum_of l
+unfolding sum_of
+added [] n = omega arith
+added (b ∷ l) n = let e = added l (n + b) in omega arith
 
 pub returns : goal.returns
 returns c =
-    let s = c.args.item.now in
-    let e : c.loop-i.total ≡ sum_of s = omega (arith, sum_done s c.loop-i.i c.loop-i-test.false) in
-    rw e
+    let total : c.sum-total.result ≡ sum c.args.item.now = search rules in
+    omega (arith, added c.args.item.now 0)

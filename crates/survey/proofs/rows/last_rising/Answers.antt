@@ -1,15 +1,13 @@
--- The invariant: the rows passed rise. Assumes nothing.
-use mathlib.Core.Path.{refl, sym, ◌∙◌}
-use native.Mathlib.Omega.{arith}
-use Rattle.laws.specs.Checks.{every}
-use Rattle.laws.proofs.Tests.{every_next}
+-- The first row from which the next does not rise, or the last. Assumes nothing.
+use borrow.Author.Rules.{rules}
+use Rattle.tables.specs.Rows.{level, volume}
+use Rattle.tables.proofs.Walks.{every_to_found}
+use Rattle.survey.specs.Rows.{row_rises}
 use Rattle.survey.proofs.rows.last_rising.Goals as goal
 
-pub loop-i-init : goal.loop-i-init
-unfolding every
-loop-i-init c = (omega arith, refl)
-
-pub loop-i-preserved : goal.loop-i-preserved
-loop-i-preserved c =
-    let e = sym c.row_rises.ensures ∙ c.if-not-row_rises.false in
-    (omega arith, every_next _ _ c.loop-i.invariant.1 e)
+pub returns : goal.returns
+unfolding row_rises
+returns c =
+    let s = c.args.s.now in
+    let (a, b, d) = every_to_found 351 _ _ _ (row_rises (level s) (volume s)) c.find.ensures.ran (λ x v q k. search rules) in
+    rw c.unwrap_or.ensures (record { most = a; rising = b; no_further = d })

@@ -1,10 +1,12 @@
 -- The first check that fails decides; past both the search is ready. Assumes nothing.
 use mathlib.Core.Path.{◌≡◌, sym, ◌∙◌}
 use mathlib.Core.Bool.{true}
+use Prim.Native.Nat.{◌≤◌}
 use native.Mathlib.Omega.{arith}
-use Rattle.tables.specs.Rows.{never_fall}
+use Rattle.std.proofs.lemmas.Grind.{common_steps}
+use Rattle.tables.specs.Rows.{level, never_fall}
 use Rattle.tables.specs.Quantity.{answered}
-use Rattle.tables.proofs.Checked.{falling, too_low, too_high, inside}
+use Rattle.tables.proofs.Checked.{falling, too_high, inside, outside}
 use Rattle.tables.proofs.quantity.quantity_in.Goals.{Else-not-never_fall}
 use Rattle.tables.proofs.quantity.quantity_in.Goals as goal
 
@@ -12,20 +14,26 @@ climbing : (c : Else-not-never_fall) → never_fall c.args.s.now ≡ true
 climbing c = sym c.never_fall.ensures ∙ c.if-not-never_fall.false
 
 pub returns-then-not-never_fall : goal.returns-then-not-never_fall
-returns-then-not-never_fall c = c.unanswered.ensures ∙ sym (falling _ _ (sym c.never_fall.ensures ∙ c.if-not-never_fall.true))
+returns-then-not-never_fall c = sym (falling _ _ (sym c.never_fall.ensures ∙ c.if-not-never_fall.true))
 
-pub returns-then-level-level_of : goal.returns-then-level-level_of
-returns-then-level-level_of c =
-    let a = c.args in
-    c.unanswered-then-level-level_of.ensures ∙ sym (too_low a.s.now a.level (climbing (goal.at.returns-then-level-level_of c).Else-not-never_fall) (omega arith))
-
-pub returns-then-level_of-level : goal.returns-then-level_of-level
-returns-then-level_of-level c =
-    let a = c.args in
-    c.unanswered-then-level_of-level.ensures ∙ sym (too_high a.s.now a.level (climbing (goal.at.returns-then-level_of-level c).Else-not-never_fall) (omega arith))
-
-pub returns : goal.returns
+pub returns-in-Ok : goal.returns-in-Ok
 unfolding answered
-returns c =
-    let a = c.args in
-    rw (inside a.s.now a.level (climbing (goal.at.returns c).Else-not-never_fall) (omega arith) (omega arith), c.volume_at.ensures)
+returns-in-Ok c =
+    let s = c.args.s.now in
+    let x = c.args.level in
+    let h = climbing (goal.at.returns-in-Ok c).Else-not-never_fall in
+    let e = c.in-Ok.ensures.1 in
+    let least : level s 0 ≤ x = grind (arith, common_steps) in
+    let most : x ≤ level s 351 = grind (arith, common_steps) in
+    rw (inside s x h least most, c.volume_at.ensures, e)
+
+pub returns-in_default : goal.returns-in_default
+returns-in_default c =
+    let r = c.new-levels.ensures in
+    let none = rw (r.start, r.end, r.exhausted, c.level_of.ensures, c.level_of-2.ensures, c.in-Ok.ensures.1) at c.if-contains.ensures.value in
+    sym (outside _ _ (climbing (goal.at.returns-in_default c).Else-not-never_fall) (sym none))
+
+pub returns-in_default-2 : goal.returns-in_default-2
+returns-in_default-2 c =
+    let big : 65536 ≤ c.args.level = grind (arith, common_steps) in
+    sym (too_high _ _ (climbing (goal.at.returns-in_default-2 c).Else-not-never_fall) (omega arith))

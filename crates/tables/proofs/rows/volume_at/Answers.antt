@@ -9,41 +9,28 @@ use Rattle.tables.proofs.rows.volume_at.Goals.{After-last_row-i}
 use Rattle.tables.proofs.rows.volume_at.Goals as goal
 
 -- what was found is the last row at or below the level
-row : (c : After-last_row-i) → Last (level c.args.s.now) 351 c.args.asked c.last_row-i.result
-row c = rw c.last_row-i.ensures (is_last _ 351 _ c.requires.least)
+found : (c : After-last_row-i) → Last (level c.args.s.now) 351 c.args.asked c.last_row-i.result
+found c = rw c.last_row-i.ensures (is_last _ 351 _ c.requires.least)
 
-pub volume_of-here-requires : goal.volume_of-here-requires
-volume_of-here-requires c =
-    let r = (row (goal.at.volume_of-here-requires c).After-last_row-i).most in omega arith
+pub row_at-row-requires : goal.row_at-row-requires
+row_at-row-requires c = omega (arith, (found (goal.at.row_at-row-requires c).After-last_row-i).most)
 
 pub returns-then-i-eq-LAST_ROW : goal.returns-then-i-eq-LAST_ROW
-returns-then-i-eq-LAST_ROW c = c.volume_of-here.ensures ∙ sym (at_last _ _ 351 _ _ c.last_row-i.ensures c.if-i-eq-LAST_ROW.true)
+returns-then-i-eq-LAST_ROW c = rw c.row_at-row.ensures (sym (at_last _ _ 351 _ _ c.last_row-i.ensures c.if-i-eq-LAST_ROW.true))
 
-pub overflow_add-next : goal.overflow_add-next
-overflow_add-next c =
-    let r = (row (goal.at.overflow_add-next c).After-last_row-i).most in omega arith
+pub overflow_add-i : goal.overflow_add-i
+overflow_add-i c = omega (arith, (found (goal.at.overflow_add-i c).After-last_row-i).most)
 
-pub volume_of-requires : goal.volume_of-requires
-volume_of-requires c =
-    let r = (row (goal.at.volume_of-requires c).After-last_row-i).most in omega arith
-
-pub level_of-requires : goal.level_of-requires
-level_of-requires c =
-    let r = (row (goal.at.level_of-requires c).After-last_row-i).most in omega arith
-
-pub level_of-requires-2 : goal.level_of-requires-2
-level_of-requires-2 c =
-    let r = (row (goal.at.level_of-requires-2 c).After-last_row-i).most in omega arith
+pub row_at-requires : goal.row_at-requires
+row_at-requires c = omega (arith, (found (goal.at.row_at-requires c).After-last_row-i).most)
 
 pub between-requires : goal.between-requires
 between-requires c =
-    let r = row (goal.at.between-requires c).After-last_row-i in
-    let most = r.most in
-    let below = r.below in
-    let above = r.above (c.last_row-i.result + 1) (omega arith) (omega arith) in
-    let h = never_fall_is _ c.requires.climbing c.last_row-i.result (c.last_row-i.result + 1) (omega arith) (omega arith) in
-    (omega arith, omega arith, omega arith)
+    let i = c.last_row-i.result in
+    let r = found (goal.at.between-requires c).After-last_row-i in
+    let above = r.above (i + 1) (omega arith) (omega (arith, r.most)) in
+    let h = never_fall_is _ c.requires.climbing i (i + 1) (omega arith) (omega (arith, r.most)) in
+    rw (c.row_at-row.ensures, c.row_at.ensures) (h.1, r.below, above)
 
 pub returns : goal.returns
-returns c =
-    c.between.ensures ∙ cc (at_next _ _ 351 _ _ c.last_row-i.ensures c.if-i-eq-LAST_ROW.false)
+returns c = c.between.ensures ∙ rw (c.row_at-row.ensures, c.row_at.ensures) (sym (at_next _ _ 351 _ _ c.last_row-i.ensures c.if-i-eq-LAST_ROW.false))

@@ -2,7 +2,7 @@
 use Rattle.std.proofs.Common.{sym, ap, ◌∙◌}
 use Rattle.laws.proofs.Checks.{gives_one}
 use Rattle.image.specs.Version.{current}
-use Rattle.tables.specs.declared.quantity.Quantity.{Quantity}
+use Rattle.tables.specs.Quantity.{Quantity}
 use Rattle.tables.proofs.Promises.{quantity_gives, refused_quantity, answered_as}
 use Rattle.vectors.proofs.images.volume_at.Goals as goal
 

@@ -1,31 +1,17 @@
--- The loop keeps what remains to be laid, the characters of the bytes from i on, and their total. Assumes nothing.
+-- The loop has spelt the bytes up to the index, and a turn spells the next. Assumes nothing.
 use native.Mathlib.Omega.{arith}
-use Rattle.laws.specs.Bytes.{sum_of}
-use Rattle.laws.proofs.Bytes.{lay_more, lay_done}
-use Rattle.laws.proofs.Sums.{sum_next, sum_done}
-use Rattle.frame.specs.Digits.{chars_of}
-use Rattle.frame.proofs.FrameLaid.{chars_next, chars_done, length_chars}
+use lib.ListN.{length-take}
+use Rattle.std.proofs.lemmas.List.{take_more}
+use Rattle.frame.proofs.FrameLaid.{spells_none, spells_then, spells_past}
 use Rattle.frame.proofs.writer.Writer.put_all.Goals as goal
 
-pub loop-i-preserved : goal.loop-i-preserved
-unfolding chars_of sum_of
-loop-i-preserved c =
-    let l = c.loop-i in
-    let s = c.put-w.ensures in
-    let more = c.loop-i-test.true in (
-      omega arith,
-      omega (arith, s.spelt.past),
-      omega arith,
-      lay_more _ _ _ _ _ _ _ _ (chars_next _ _ more) s.spelt.laid s.spelt.past l.invariant.3,
-      omega (arith, s.total_is),
-      omega (arith, s.total_is, l.invariant.5, sum_next c.args.src.now l.i more),
-    )
+pub loop-b-init : goal.loop-b-init
+loop-b-init c = spells_none c.args.self c.args.out.now (omega arith)
 
-pub returns : goal.returns
-returns c =
-    let l = c.loop-i in
-    let src = c.args.src.now in
-    record {
-      spelt = record { past = omega (arith, length_chars src); laid = lay_done _ _ _ _ (chars_done _ _ c.loop-i-test.false) l.invariant.3 };
-      total_is = omega (arith, l.invariant.5, sum_done src l.i c.loop-i-test.false);
-    }
+pub put-w-requires : goal.put-w-requires
+put-w-requires c = omega (arith, spells_past c.loop-b.invariant, length-take c.loop-b.b-index c.args.src.now)
+
+pub loop-b-preserved : goal.loop-b-preserved
+loop-b-preserved c =
+    rw (take_more c.args.src.now c.loop-b.b-index 0 c.loop-b-test.true)
+    (spells_then _ _ _ _ _ _ _ _ c.loop-b.invariant c.put-w.ensures)

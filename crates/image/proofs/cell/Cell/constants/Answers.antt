@@ -1,13 +1,16 @@
 -- The test is the definition's. Assumes nothing.
-use native.Mathlib.Omega.{arith}
-use borrow.Author.Tests.{lt-ltb, le-ltb}
+use mathlib.Core.Path.{◌≡◌, refl, ◌∙◌}
+use mathlib.Core.Bool.{Bool, true, false}
+use Rattle.std.specs.Bool.{then_some}
+use Rattle.image.specs.declared.cell.Cell.{Cell}
 use Rattle.image.specs.Cell.{when, constants_named}
 use Rattle.image.proofs.cell.Cell.constants.Goals as goal
 
-pub returns-then-channel-lt8 : goal.returns-then-channel-lt8
-unfolding constants_named when
-returns-then-channel-lt8 c = rw (lt-ltb c.args.channel 8 (omega arith))
+when_is : (t : Bool) (d : Cell) → then_some t d ≡ when t d
+unfolding when
+when_is true d = refl
+when_is false d = refl
 
-pub returns-else-channel-lt8 : goal.returns-else-channel-lt8
-unfolding constants_named when
-returns-else-channel-lt8 c = rw (le-ltb c.args.channel 8 (omega arith))
+pub returns : goal.returns
+unfolding constants_named
+returns c = c.then_some.ensures ∙ when_is _ _

@@ -1,16 +1,17 @@
 -- The two tests of the definition. Assumes nothing.
+use native.Mathlib.Omega.{arith}
 use borrow.Author.Tests.{lt-ltb, le-ltb}
 use Rattle.image.specs.Cell.{item_at}
 use Rattle.image.proofs.cell.Cell.item.Goals as goal
 
-pub returns-then-i-lt16 : goal.returns-then-i-lt16
+pub returns-in-0-to-15 : goal.returns-in-0-to-15
 unfolding item_at
-returns-then-i-lt16 c = rw (lt-ltb _ 16 c.if-i-lt16.true)
+returns-in-0-to-15 c = rw (lt-ltb c.args.i 16 (omega arith))
 
-pub returns-then-i-lt24 : goal.returns-then-i-lt24
+pub returns-in-16-to-23 : goal.returns-in-16-to-23
 unfolding item_at
-returns-then-i-lt24 c = rw (le-ltb _ 16 c.if-i-lt16.false, lt-ltb _ 24 c.if-i-lt24.true)
+returns-in-16-to-23 c = rw (le-ltb c.args.i 16 (omega arith), lt-ltb c.args.i 24 (omega arith))
 
-pub returns-else-i-lt24 : goal.returns-else-i-lt24
+pub returns-in_default : goal.returns-in_default
 unfolding item_at
-returns-else-i-lt24 c = rw (le-ltb _ 16 c.if-i-lt16.false, le-ltb _ 24 c.if-i-lt24.false)
+returns-in_default c = rw (le-ltb c.args.i 16 (omega arith), le-ltb c.args.i 24 (omega arith))
