@@ -5,8 +5,7 @@ use Prim.Native.Nat.{ℕ, ◌+◌, ◌*◌, ◌≤◌, ◌<◌}
 use native.Mathlib.Omega.{arith}
 use lib.ListN.{length, get_or, drop, length-append}
 use Rattle.std.specs.Prelude.{Ok}
-use Rattle.laws.specs.Bytes.{sum_of}
-use Rattle.laws.proofs.Sums.{sum-append}
+use Rattle.laws.proofs.Sums.{sum_empty, sum-append}
 use Rattle.laws.proofs.Walks.{next, none_left}
 use Rattle.output.specs.Cursor.{Laid}
 use Rattle.output.specs.Output.{answer_of, written, Does}
@@ -40,8 +39,8 @@ chars_append (x ∷ a) b = rw (chars_append a b)
 -- ---- bytes that are spelt one after another
 
 pub spells_none : (w : Writer) (o : List ℕ) → w.total < 256 → Spells w o [] w o
-unfolding chars_of sum_of
-spells_none w o h = record { spelt = laid_none _ _; total_is = omega arith }
+unfolding chars_of
+spells_none w o h = record { spelt = laid_none _ _; total_is = omega (arith, sum_empty [] refl) }
 
 pub spells_then : (w w₁ w₂ : Writer) (o o₁ o₂ a b : List ℕ) → Spells w o a w₁ o₁ → Spells w₁ o₁ b w₂ o₂ → Spells w o (a ++ b) w₂ o₂
 spells_then w w₁ w₂ o o₁ o₂ a b p q =

@@ -1,8 +1,10 @@
 -- The promises leave one outcome: each is an equation, or two. Assumes nothing.
 use mathlib.Core.Path.{◌≡◌, refl, sym, ap, ◌∙◌}
+use mathlib.Core.HLevel.{is_prop→PathP}
 use mathlib.Core.List.{List}
 use Prim.Native.Nat.{ℕ, ◌<◌}
 use native.Mathlib.Omega.{arith}
+use Rattle.std.specs.Coded.{le_prop, Π_prop}
 use Rattle.std.specs.Prelude.{Option, Some, None, Result, Ok, Err, unwrap_or}
 use Rattle.std.specs.Option.{ForSome}
 use Rattle.output.specs.declared.refusal.Refusal.{Refusal}
@@ -29,14 +31,19 @@ missing_one (Some n) (Some k) f g e = ap (λ (x : ℕ). Some x) e
 pub one_held : (h k : Held) → held_in (Ok h) ≡ held_in (Ok k) → (h.parts ≡ k.parts) × (h.missing ≡ k.missing)
 one_held h k e = (ap (λ a. a.parts) e, missing_one h.missing k.missing h.counted k.counted (ap (λ a. a.missing) e))
 
--- two results that a caller can't tell apart
-pub data SameHeld : Result Held Refusal → Result Held Refusal → Type 0 where
-  same_parts : {h k : Held} → h.parts ≡ k.parts → h.missing ≡ k.missing → SameHeld (Ok h) (Ok k)
-  same_refusal : {e f : Refusal} → e ≡ f → SameHeld (Err e) (Err f)
+-- two with the same parts are the same, since that a missing one is not 0 has one proof
+same_held : (h k : Held) → h.parts ≡ k.parts → h.missing ≡ k.missing → h ≡ k
+same_held h k p m =
+    λ i.
+    record {
+      parts = p i;
+      missing = m i;
+      counted = is_prop→PathP (λ j. ForSome (m j) (λ n. 0 < n)) (λ j. Π_prop (λ n. Π_prop (λ e. le_prop))) h.counted k.counted i;
+    }
 
 -- a refusal has a number of its own, and it is not 0
-pub one_held_result : (r s : Result Held Refusal) → held_in r ≡ held_in s → SameHeld r s
-one_held_result (Ok h) (Ok k) e = let p = one_held h k e in same_parts p.0 p.1
+pub one_held_result : (r s : Result Held Refusal) → held_in r ≡ held_in s → r ≡ s
+one_held_result (Ok h) (Ok k) e = let p = one_held h k e in ap (λ z. Ok z) (same_held h k p.0 p.1)
 one_held_result (Ok h) (Err f) e =
     absurd
     (let n : 0 ≡ number_of f = ap (λ a. a.number) e in
@@ -47,4 +54,4 @@ one_held_result (Err e) (Ok k) h =
     (let n : number_of e ≡ 0 = ap (λ a. a.number) h in
     let z = above_0 e in
     omega arith)
-one_held_result (Err e) (Err f) h = same_refusal (one_refusal e f (ap (λ a. a.number) h))
+one_held_result (Err e) (Err f) h = ap (λ z. Err z) (one_refusal e f (ap (λ a. a.number) h))

@@ -16,7 +16,7 @@ use Rattle.image.specs.Version.{current}
 use Rattle.image.specs.Made.{Makes}
 use Rattle.image.specs.Fresh.{freshened}
 use Rattle.image.specs.Held.{held_parts, held_in, HeldAnswer}
-use Rattle.image.proofs.OneOutcome.{makes_one_outcome, held_one_outcome, SameHeld, one_held_result}
+use Rattle.image.proofs.OneOutcome.{makes_one_outcome, held_one_outcome, one_held_result}
 use Rattle.rules.specs.declared.switch.Switch.{Switch}
 use Rattle.command.specs.Reply.{Serves}
 use Rattle.izk.specs.Heard.{heard}
@@ -65,5 +65,5 @@ fresh_one_result m a r s m' m'' x y =
     (one_result tt r s z.0 refl, z.1)
 
 pub held_parts_one_result : (m : List ℕ) (t : ℕ) (r s : Result Held Refusal) → held_in r ≡ held_parts current m t → held_in s ≡ held_parts current m t
-    → SameHeld r s
+    → r ≡ s
 held_parts_one_result m t r s x y = one_held_result r s (x ∙ sym y)

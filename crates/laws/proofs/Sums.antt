@@ -28,9 +28,8 @@ sum_done s i h = sum_empty _ (none_left s i h)
 -- ---- put together and cut
 
 pub sum-append : (l k : List ℕ) → sum_of (l ++ k) ≡ sum_of l + sum_of k
-unfolding sum_of
-sum-append [] k = omega arith
-sum-append (b ∷ l) k = let e = sum-append l k in omega arith
+sum-append [] k = omega (arith, sum_empty [] refl)
+sum-append (b ∷ l) k = omega (arith, sum_first (b ∷ l) l b refl, sum_first (b ∷ (l ++ k)) (l ++ k) b refl, sum-append l k)
 
 -- zeros add nothing
 none-take : (n : ℕ) (l : List ℕ) → ((i : ℕ) → get_or l i 0 ≡ 0) → sum_of (take n l) ≡ 0
