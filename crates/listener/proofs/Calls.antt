@@ -7,7 +7,8 @@ use Prim.Native.Nat.{ℕ, ◌-◌}
 use lib.ListN.{length, replicate}
 use Rattle.reorder.specs.Reorder.{outcomes, final}
 use Rattle.listener.specs.declared.Listener.{Listener}
-use Rattle.listener.specs.Listening.{Listened, both, listened, idle}
+use Rattle.listener.specs.declared.Listened.{Listened}
+use Rattle.listener.specs.Listening.{both, listened, idle}
 use Rattle.listener.specs.Handing.{gathered, handed, takes, well_formed}
 use Rattle.listener.specs.Calls.{Took, no_call, a_call}
 use Rattle.listener.proofs.Handing.{found, found_held}

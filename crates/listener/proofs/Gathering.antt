@@ -16,7 +16,8 @@ use Rattle.laws.specs.Bytes.{slice, lay}
 use Rattle.laws.proofs.Bytes.{lay_one, length-lay, length-slice, slice-lay}
 use Rattle.laws.proofs.Tests.{and_both}
 use Rattle.listener.specs.declared.Listener.{Listener}
-use Rattle.listener.specs.Listening.{Listened, ends_frame, listened}
+use Rattle.listener.specs.declared.Listened.{Listened}
+use Rattle.listener.specs.Listening.{ends_frame, listened}
 use Rattle.listener.specs.Handing.{Waits, gathered, handed, end_at}
 use Rattle.listener.proofs.Steps.{starts_afresh, passes_by, drops_at_269, gathers_one}
 use Rattle.listener.proofs.Shapes.{length_more}

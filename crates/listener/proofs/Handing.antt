@@ -15,7 +15,8 @@ use Rattle.laws.proofs.Tests.{never}
 use Rattle.reorder.specs.Reorder.{outcomes, final}
 use Rattle.reorder.proofs.Readings.{length-outcomes}
 use Rattle.listener.specs.declared.Listener.{Listener}
-use Rattle.listener.specs.Listening.{Listened, listened}
+use Rattle.listener.specs.declared.Listened.{Listened}
+use Rattle.listener.specs.Listening.{listened}
 use Rattle.listener.specs.Handing.{Waits, gathered, handed, takes, end_at, well_formed, since}
 use Rattle.listener.proofs.Steps.{starts_afresh, room_stays}
 use Rattle.listener.proofs.Shapes.{among-append, not_first, not_one, since_later, since-on, Begun, too_long, frame_is, frame_whole, well_more, begun-on}

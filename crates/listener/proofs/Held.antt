@@ -10,7 +10,8 @@ use Rattle.laws.specs.Checks.{among}
 use Rattle.laws.proofs.Tests.{neither}
 use Rattle.reorder.specs.Reorder.{outcomes}
 use Rattle.listener.specs.declared.Listener.{Listener}
-use Rattle.listener.specs.Listening.{Listened, listened}
+use Rattle.listener.specs.declared.Listened.{Listened}
+use Rattle.listener.specs.Listening.{listened}
 use Rattle.listener.specs.Handing.{Waits, gathered, handed, takes}
 use Rattle.listener.proofs.Shapes.{among-append, not_first}
 use Rattle.listener.proofs.Gathering.{Holds, holds_waits, waits_or_holds, After, ends, goes_on, drops, after, waits_stays}

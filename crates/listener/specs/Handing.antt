@@ -4,7 +4,8 @@ use Rattle.std.proofs.Math.Option.{Option, some, none}
 use Rattle.laws.specs.Bytes.{slice}
 use Rattle.laws.specs.Checks.{among, every}
 use Rattle.listener.specs.declared.Listener.{Listener}
-use Rattle.listener.specs.Listening.{Listened, listened}
+use Rattle.listener.specs.declared.Listened.{Listened}
+use Rattle.listener.specs.Listening.{listened}
 
 -- ---- byte after byte
 

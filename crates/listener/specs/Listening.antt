@@ -3,6 +3,7 @@ use Rattle.std.specs.Prelude.{[], ◌∷◌, Bool, true, false, cond, not, ◌&&
 use Rattle.laws.specs.Bytes.{lay, zeros}
 use Rattle.laws.specs.Checks.{within}
 use Rattle.listener.specs.declared.Listener.{Listener}
+use Rattle.listener.specs.declared.Listened.{Listened}
 use Rattle.listener.specs.declared.step.Effect.{Effect}
 use Rattle.listener.specs.declared.step.Effect.TheVariants.{Passes, Drops, Gathers}
 
@@ -48,11 +49,6 @@ step_by count gathering Drops = drops
 step_by count gathering (Gathers at ends) = gathers at ends
 
 -- ---- over the record
-
--- the record after a byte, and whether a frame is there now
-pub record Listened : Type 0 where
-  pub listener : Listener
-  pub there : Bool
 
 -- where the byte before stands, if there is one
 unfoldable pub before_at : ℕ → ℕ

@@ -17,13 +17,19 @@ pub struct Listener {
     pub gathering: bool,
 }
 
+// The record after a byte, and whether a frame is there now.
+#[derive(Clone, Copy)]
+pub struct Listened {
+    pub listener: Listener,
+    pub there: bool,
+}
+
 // Takes one byte of the line; true where it ends a frame, which then is the first `count` bytes of the room, until the next 3Ah. Every record is taken,
 // whatever stands in it.
 pub fn listen(l: &mut Listener, byte: u8) -> bool
     ensures { record { listener = l.new; there = result } ≡ listened l.old byte }
 {
-    // The last byte gathered. With none, or with a count that no room has, no step looks at it.
-    let before = l.room.get(l.count.wrapping_sub(1)).copied().unwrap_or(0);
+    let before = l.room[step::before_at(l.count)];
     match step::step_of(before, l.count, l.gathering, byte) {
         Effect::Passes => false,
         Effect::Drops => {
@@ -38,6 +44,15 @@ pub fn listen(l: &mut Listener, byte: u8) -> bool
             ends
         }
     }
+}
+
+// The same for a record that is handed over and handed back.
+pub fn listen_by_value(l: Listener, byte: u8) -> Listened
+    ensures { result ≡ listened l byte }
+{
+    let mut listener = l;
+    let there = listen(&mut listener, byte);
+    Listened { listener, there }
 }
 
 // A record that waits for a frame's first byte.

@@ -1,6 +1,6 @@
 // What a byte of the line does, over plain values: nothing here sees the room.
-ghost use Rattle.std.specs.Prelude.{◌≡◌};
-ghost use Rattle.listener.specs.Listening.{ends_frame, step_of, step_by};
+ghost use Rattle.std.specs.Prelude.{◌≡◌, ◌<◌};
+ghost use Rattle.listener.specs.Listening.{ends_frame, step_of, step_by, before_at};
 
 // What a byte does to a record: it is let pass; or what was gathered is dropped; or it is gathered, at an index of the room, and may end the frame.
 #[derive(Clone, Copy)]
@@ -8,6 +8,17 @@ pub(crate) enum Effect {
     Passes,
     Drops,
     Gathers { at: usize, ends: bool },
+}
+
+// Where the byte before the next one stands; 0 where none is gathered, and for a count that no room has.
+#[tactic(auto, unfolding(crate::specs::Listening::before_at, laws::specs::Checks::within))]
+pub(crate) fn before_at(count: usize) -> usize
+    ensures { (result ≡ before_at count) × (result < 269) }
+{
+    match count {
+        1..=269 => count - 1,
+        _ => 0,
+    }
 }
 
 // 0Ah right after 0Dh. The first byte gathered has none before it.

@@ -66,3 +66,17 @@ pub fn move_to(version: Version, source: &[u8], target: &mut [u8]) -> Result<(),
     }
     Ok(())
 }
+
+// From version 1 to version 2, with true words. Refuses 1.
+pub fn move_up(source: &[u8], target: &mut [u8]) -> Result<(), Refusal>
+    ensures { Makes (moved V2 source.now target.old) (number_in result) target.new }
+{
+    move_to(Version::V2, source, target)
+}
+
+// From version 2 to version 1, without the words, which are not judged. Refuses 1.
+pub fn move_down(source: &[u8], target: &mut [u8]) -> Result<(), Refusal>
+    ensures { Makes (moved V1 source.now target.old) (number_in result) target.new }
+{
+    move_to(Version::V1, source, target)
+}
