@@ -3,7 +3,7 @@ ghost use Rattle.std.specs.Prelude.{◌≡◌, ◌≤◌};
 ghost use Rattle.tables.specs.Rows.{level, volume};
 ghost use Rattle.survey.specs.Rows.{stays_from, RisesUpTo, rises_then_stays};
 
-use tables::{LAST_ROW, Rows, row_at};
+use tables::{LAST_ROW, Rows, level_of, row_at, volume_of};
 
 // The row up to which they rise: the first from which the next does not. Here and below a walk goes over numbers of rows, since a number is what is looked
 // for, and where the rows that stay begin; walks over the bytes in fours would cut a slice first, and say no more.
@@ -12,9 +12,8 @@ fn last_rising(s: &Rows) -> usize
 {
     (0..LAST_ROW)
         .find(|i| {
-            let row = row_at(s, *i);
-            let next = row_at(s, *i + 1);
-            !(row.level < next.level && row.volume <= next.volume)
+            let next = *i + 1;
+            !(level_of(s, *i) < level_of(s, next) && volume_of(s, *i) <= volume_of(s, next))
         })
         .unwrap_or(LAST_ROW)
 }

@@ -3,14 +3,13 @@
 use mathlib.Core.Path.{◌≡◌, refl, sym, ap, ◌∙◌}
 use mathlib.Core.Logic.{◌≢◌}
 use mathlib.Core.List.{List, [], ◌∷◌, map}
-use mathlib.Core.Bool.{true, false, ◌&&◌}
+use mathlib.Core.Bool.{true, false}
 use Prim.Native.Nat.{ℕ, ◌<◌, ◌≤◌}
 use native.Mathlib.Decide.{dec_lt}
 use native.Mathlib.Omega.{arith}
 use borrow.Author.Tests.{eq-eqb, ne_eqb}
 use Rattle.std.specs.Prelude.{Ok, Err, Option, Some, None, is_some, unwrap_or}
 use Rattle.std.specs.Option.{ForSome}
-use Rattle.std.specs.Ordering.{is_le, nat_cmp}
 use Rattle.laws.specs.Checks.{judged, first_failing, AllPass, rising_from}
 use Rattle.laws.proofs.Tests.{never, within_is, within_in, within_below, within_above}
 use Rattle.laws.proofs.Checks.{Judged, passed, failed, judge, judged_number, none_fails}
@@ -112,9 +111,6 @@ module _ (v : Version) (m : List ℕ) (t : ℕ) where
 
 -- ---- by the rows
 
-ordered : (a b : ℕ) → a ≤ b → is_le (nat_cmp a b) ≡ true
-ordered a b l = grind arith
-
 module _ (s : List ℕ) (x : ℕ) where
   pub covers_is : covers s x ≡ true → (level s 0 ≤ x) × (x ≤ level s 351)
   unfolding covers
@@ -152,11 +148,11 @@ module _ (s : List ℕ) (x : ℕ) where
     unfolding judged
     inside l g = rw (h, covers_if l g)
 
-    -- what the library's range from row 1's level to row 352's does not contain
-    pub outside : (is_le (nat_cmp (level s 0) x) && is_le (nat_cmp x (level s 351))) ≡ false → by_rows ≡ unanswered 14
+    -- what a range from row 1's level to row 352's does not contain
+    pub outside : (level s 0 ≤ x → x ≤ level s 351 → ⊥) → by_rows ≡ unanswered 14
     outside n = go (dec_lt x (level s 0)) (dec_lt (level s 351) x)
       where
         go : Dec (x < level s 0) → Dec (level s 351 < x) → by_rows ≡ unanswered 14
         go (yes l) d = too_low l
         go (no a) (yes l) = too_high l
-        go (no a) (no b) = absurd (never (sym n ∙ rw (ordered (level s 0) x (omega arith), ordered x (level s 351) (omega arith))))
+        go (no a) (no b) = absurd (n (omega arith) (omega arith))

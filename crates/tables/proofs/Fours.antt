@@ -1,23 +1,18 @@
--- A table's bytes cut into rows of four, as a search goes through them. Assumes nothing.
+-- A table's bytes cut into rows of four, as a walk goes through them. Assumes nothing.
 use mathlib.Core.Path.{◌≡◌, refl, sym, ap, ◌∙◌}
 use mathlib.Core.List.{List}
 use mathlib.Core.Bool.{Bool, true, false, ◌&&◌}
-use Prim.Native.Nat.{ℕ, zero, suc, ◌+◌, ◌-◌, ◌*◌, ◌≤◌, ◌<◌}
-use native.Mathlib.Decide.{dec_lt}
+use Prim.Native.Nat.{ℕ, zero, suc, ◌+◌, ◌*◌, ◌<◌}
 use native.Mathlib.Omega.{arith}
 use lib.Dec.{leb}
 use lib.ListN.{length, get_or, take, drop}
 use lib.Seq.{get_or-take, get_or-drop}
-use borrow.Author.Tests.{leb-true}
 use Rattle.std.specs.Simd.{first_chunks}
 use Rattle.std.specs.List.{IsAllAdjacentAnswer}
-use Rattle.std.specs.List.Sorted.{IsNonDecreasingBy, IsPartitionPoint}
-use Rattle.std.proofs.lemmas.Bool.{leb-false}
 use Rattle.std.proofs.lemmas.List.{drop-drop}
 use Rattle.laws.specs.Bytes.{word_at}
 use Rattle.laws.proofs.Tests.{every_of, every_fails}
-use Rattle.tables.specs.Rows.{level, volume, climbs, last_row, never_fall, Ready}
-use Rattle.tables.proofs.LastRow.{last_is, never_fall_is}
+use Rattle.tables.specs.Rows.{level, volume, climbs, never_fall}
 
 length_fours : (n k : ℕ) (s : List ℕ) → length (first_chunks n k s) ≡ k
 length_fours n zero s = refl
@@ -71,27 +66,3 @@ module _ (s : List ℕ) (rows : List (List ℕ)) (k : ℕ) (e : rows ≡ first_c
       go false (i, l, h) =
           let below : i < 351 = omega (arith, long) in
           sym (every_fails (climbs (level s) (volume s)) 351 i below (sym (step i below) ∙ sym (h s)))
-
-  pub levels_rise : never_fall s ≡ true → IsNonDecreasingBy (λ row. word_at row 0) rows
-  levels_rise h i j d a b =
-      let l : j < 352 = omega (arith, long) in
-      rw (level_in i d (omega arith), level_in j d l) (never_fall_is s h i j a (omega arith)).0
-
-  -- the first whose level is above x is behind the last that is not
-  pub behind_last : (x i : ℕ) → Ready s x → IsPartitionPoint (λ row. leb (word_at row 0) x ≡ true) (λ row. leb (word_at row 0) x ≡ false) rows i
-      → i ≤ length rows → (1 ≤ i) × (i - 1 ≡ last_row (level s) x 351)
-  behind_last x i h (p, q) most =
-      (some, sym (last_is (level s) 351 x (i - 1) (record { most = omega (arith, long); below = below; above = λ j a b. above j (omega arith) b })))
-    where
-      above : (j : ℕ) → i ≤ j → j ≤ 351 → x < level s j
-      above j a b = rw (← level_in j s (omega arith)) (leb-false _ _ (q j s a (omega (arith, long))))
-
-      some : 1 ≤ i
-      some = go (dec_lt 0 i)
-        where
-          go : Dec (0 < i) → 1 ≤ i
-          go (yes l) = omega arith
-          go (no l) = absurd (let z : ⊥ = omega (arith, above 0 (omega arith) (omega arith), h.least) in z)
-
-      below : level s (i - 1) ≤ x
-      below = rw (← level_in (i - 1) s (omega (arith, long))) (leb-true _ _ (p (i - 1) s (omega arith) (omega (arith, some))))

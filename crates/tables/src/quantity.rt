@@ -35,3 +35,10 @@ pub fn quantity_at(m: &[u8], table: u32, level: u32) -> Result<u16, Refusal>
     let start = Cell::TABLES_OFFSET + Cell::TABLE_SIZE * usize::from(k);
     quantity_in(m[start..].first_chunk().unwrap(), level)
 }
+
+// What is reported with the number: a refusal has volume 0.
+pub fn reported_volume(answer: &Result<u16, Refusal>) -> u16
+    ensures { result ≡ (quantity_of answer.now).volume }
+{
+    answer.unwrap_or(0)
+}

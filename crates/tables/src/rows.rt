@@ -7,6 +7,8 @@ use image::{Cell, word_at};
 
 const ROW_SIZE: usize = 4;
 
+const ROWS: usize = 352;
+
 pub const LAST_ROW: usize = 351;
 
 // A table's bytes.
@@ -44,7 +46,7 @@ pub fn row_at(s: &Rows, i: usize) -> Row
     }
 }
 
-// From each row to the next. The test's clause is written out, since of a call on an array none is found; `last_row` has one for the same reason.
+// From each row to the next. The test's clause is written out, since of a call on an array none is found.
 pub(crate) fn never_fall(s: &Rows) -> bool
     ensures { result ≡ never_fall s.now }
 {
@@ -56,17 +58,23 @@ pub(crate) fn never_fall(s: &Rows) -> bool
     )
 }
 
-// The rows at or below the level asked come first.
+// By halves: row `low` is at or below the level asked, the rows from `high` on are above it. The library's `partition_point` reads a row more: it halves the
+// rows down to one, and reads that one too.
 fn last_row(s: &Rows, asked: u16) -> usize
     requires { Ready s.now asked }
     ensures { result ≡ last_row (level s.now) asked 351 }
 {
-    let (rows, _) = s.as_chunks::<ROW_SIZE>();
-    rows.partition_point(
-        |row|
-            ensures { result ≡ leb (word_at row.now 0) asked }
-        { word_at(row, 0) <= asked },
-    ) - 1
+    let mut low = 0;
+    let mut high = ROWS;
+    while low + 1 < high {
+        let middle = (low + high) / 2;
+        if level_of(s, middle) <= asked {
+            low = middle;
+        } else {
+            high = middle;
+        }
+    }
+    low
 }
 
 // From a row's volume towards the next one's, in proportion, rounded down. The share is at most the rise, so that `as` fits and no TryFrom can fail.

@@ -27,11 +27,13 @@ returns-in-Ok c =
     let most : x ≤ level s 351 = grind (arith, common_steps) in
     rw (inside s x h least most, c.volume_at.ensures, e)
 
+-- by what is known there and no name, so that a range with another end is refused for its end
 pub returns-in_default : goal.returns-in_default
 returns-in_default c =
-    let r = c.new-levels.ensures in
-    let none = rw (r.start, r.end, r.exhausted, c.level_of.ensures, c.level_of-2.ensures, c.in-Ok.ensures.1) at c.if-contains.ensures.value in
-    sym (outside _ _ (climbing (goal.at.returns-in_default c).Else-not-never_fall) (sym none))
+    let s = c.args.s.now in
+    let x = c.args.level in
+    let out : level s 0 ≤ x → x ≤ level s 351 → ⊥ = λ a b. grind (arith, common_steps) in
+    sym (outside _ _ (climbing (goal.at.returns-in_default c).Else-not-never_fall) out)
 
 pub returns-in_default-2 : goal.returns-in_default-2
 returns-in_default-2 c =
