@@ -3,6 +3,7 @@
 
 ghost use Rattle.std.specs.Prelude.{◌≡◌, IfSome, IsOk, ◌∷◌};
 ghost use Rattle.std.specs.Result.{result_and};
+ghost use Rattle.output.specs.Output.{answer_of};
 ghost use Rattle.output.specs.Refusal.{number_in};
 ghost use Rattle.image.specs.Held.{held_in};
 ghost use Rattle.page.specs.Added.{Adds};
@@ -79,6 +80,13 @@ pub fn number<T>(answer: &Result<T, Refusal>) -> u8
         Ok(_) => 0,
         Err(refusal) => u8::from(*refusal),
     }
+}
+
+// The length that an answer reports behind its number: how many bytes were written, and none of a refusal.
+pub fn length(answer: &Result<usize, Refusal>) -> usize
+    ensures { result ≡ (answer_of answer.now).len }
+{
+    answer.unwrap_or(0)
 }
 
 // What an answer about held parts reports behind its number: how many parts are held, and the lowest that is missing. As the documents have it, a 0 stands

@@ -1,6 +1,8 @@
 // A buffer of N bytes, of which a call is lent the first. There is no heap, so its length changes within a fixed room.
 ghost use Rattle.std.specs.Prelude.{◌≤◌};
 
+use image::IMAGE_LENGTH;
+
 #[derive(Drop)]
 pub struct Buffer<const N: usize> {
     bytes: [u8; N],
@@ -43,6 +45,43 @@ impl<const N: usize> Buffer<N> {
 
     pub(crate) fn digest(&self) -> usize {
         digest(self.lent())
+    }
+}
+
+// Two buffers, of which one is the image's. That they have changed places is a flag, so that no byte is copied for it; there are two, so a flag says it all.
+#[derive(Drop)]
+pub struct Pair {
+    first: Buffer<24000>,
+    second: Buffer<24000>,
+    turned: bool,
+}
+
+impl Pair {
+    // Each of them is lent an image's length at first.
+    pub(crate) fn new() -> Self {
+        Pair {
+            first: Buffer::new(IMAGE_LENGTH),
+            second: Buffer::new(IMAGE_LENGTH),
+            turned: false,
+        }
+    }
+
+    pub(crate) fn exchange(&mut self) {
+        self.turned = !self.turned;
+    }
+
+    pub(crate) fn image(&mut self) -> &mut Buffer<24000> {
+        let (image, _) = self.both();
+        image
+    }
+
+    // The image buffer, then the second one.
+    pub(crate) fn both(&mut self) -> (&mut Buffer<24000>, &mut Buffer<24000>) {
+        if self.turned {
+            (&mut self.second, &mut self.first)
+        } else {
+            (&mut self.first, &mut self.second)
+        }
     }
 }
 

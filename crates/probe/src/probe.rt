@@ -1,20 +1,19 @@
 // What the probe holds between a script's records, and how it carries them out.
-use crate::buffer::{Buffer, digest};
+use crate::buffer::{Buffer, Pair, digest};
 use crate::script;
 use crate::script::{Record, three};
-use image::{IMAGE_LENGTH, Version};
+use image::Version;
 use listener::Listener;
 use output::Refusal;
 use page::Page;
 use rules::Switch;
+use std::io;
 use std::io::Stdout;
-use std::{io, mem};
 
 #[derive(Drop)]
 pub struct Probe {
     page: Page<Stdout>,
-    image: Buffer<24000>,
-    second: Buffer<24000>,
+    pair: Pair,
     out: Buffer<400>,
     listener: Listener,
 }
@@ -23,8 +22,7 @@ impl Probe {
     pub(crate) fn new(out: Stdout) -> Self {
         Probe {
             page: Page::new(out),
-            image: Buffer::new(IMAGE_LENGTH),
-            second: Buffer::new(IMAGE_LENGTH),
+            pair: Pair::new(),
             out: Buffer::new(269),
             listener: listener::idle(),
         }
@@ -54,17 +52,17 @@ impl Probe {
         match record.letter {
             b'L' => {
                 let [a, b, c] = record.array::<3>(0);
-                self.image.lend_first(three(a, b, c));
+                self.pair.image().lend_first(three(a, b, c));
             }
             b'P' => {
                 let [a, b, c, byte] = record.array::<4>(0);
-                self.image.set(three(a, b, c), byte);
+                self.pair.image().set(three(a, b, c), byte);
             }
             b'W' => {
                 let [byte] = record.array::<1>(0);
-                self.image.fill(byte);
+                self.pair.image().fill(byte);
             }
-            b'X' => mem::swap(&mut self.image, &mut self.second),
+            b'X' => self.pair.exchange(),
             b'O' => {
                 let [a, b, byte] = record.array::<3>(0);
                 self.out.fill(byte);
@@ -131,15 +129,17 @@ impl Probe {
 
     // The image, into the second buffer.
     fn move_to(&mut self, letter: u8, version: Version) {
-        let moved = versions::move_to(version, self.image.lent(), self.second.lent_mut());
-        let image = self.image.digest();
-        let second = self.second.digest();
+        let (image, second) = self.pair.both();
+        let moved = versions::move_to(version, image.lent(), second.lent_mut());
+        let image = image.digest();
+        let second = second.digest();
         self.answer(letter, &moved, &[image, second]);
     }
 
     fn quantity(&mut self, table: u32, level: u32) {
-        let volume = tables::quantity_at(self.image.lent(), table, level);
-        self.answer(b'A', &volume, &[usize::from(volume.unwrap_or(0))]);
+        let answer = tables::quantity_at(self.pair.image().lent(), table, level);
+        let volume = tables::reported_volume(&answer);
+        self.answer(b'A', &answer, &[usize::from(volume)]);
     }
 
     fn check(&mut self, file: &[u8]) {
@@ -147,28 +147,30 @@ impl Probe {
     }
 
     fn fresh(&mut self, address: u8) {
-        let made = izk::fresh(self.image.lent_mut(), address);
-        let image = self.image.digest();
+        let image = self.pair.image();
+        let made = izk::fresh(image.lent_mut(), address);
+        let image = image.digest();
         self.answer(b'F', &made, &[image]);
     }
 
     fn held(&mut self, table: u32) {
-        let answer = izk::held_parts(self.image.lent(), table);
+        let answer = izk::held_parts(self.pair.image().lent(), table);
         let (parts, missing) = page::held(&answer);
         self.answer(b'H', &answer, &[usize::from(parts), usize::from(missing)]);
     }
 
     fn serve(&mut self, letter: u8, switch: Switch, frame: &[u8]) {
-        let served = izk::serve(frame, switch, self.image.lent_mut(), self.out.lent_mut());
-        let image = self.image.digest();
+        let image = self.pair.image();
+        let served = izk::serve(frame, switch, image.lent_mut(), self.out.lent_mut());
+        let image = image.digest();
         let out = self.out.digest();
-        self.answer(letter, &served, &[served.unwrap_or(0), image, out]);
+        self.answer(letter, &served, &[page::length(&served), image, out]);
     }
 
     // A frame that is built or taken apart.
     fn written(&mut self, letter: u8, written: Result<usize, Refusal>) {
         let out = self.out.digest();
-        self.answer(letter, &written, &[written.unwrap_or(0), out]);
+        self.answer(letter, &written, &[page::length(&written), out]);
     }
 
     // The bytes are listened to, one after the other. Of the record's room all counts at the end, so that a byte stored where none should be is seen.

@@ -1,5 +1,5 @@
 // A script's records.
-ghost use Rattle.std.specs.Prelude.{◌<◌, length, IfSome};
+ghost use Rattle.std.specs.Prelude.{◌≡◌, ◌+◌, ◌*◌, ◌<◌, length, IfSome};
 
 // A record: its letter, the bytes behind that, without their number where they are counted, and what is left of the script.
 #[derive(Clone, Copy)]
@@ -44,6 +44,9 @@ pub(crate) fn first_record(script: &[u8]) -> Option<Record<'_>>
 }
 
 // A number of three bytes, high byte first as in every number.
-pub(crate) fn three(high: u8, middle: u8, low: u8) -> usize {
+pub(crate) fn three(high: u8, middle: u8, low: u8) -> usize
+    ensures below { result < 16777216 }
+    ensures value { result ≡ 65536 * high + (256 * middle + low) }
+{
     usize::from_be_bytes([0, 0, 0, 0, 0, high, middle, low])
 }

@@ -1,5 +1,5 @@
 // Frames served, taken apart and built.
-ghost use Rattle.std.specs.Prelude.{◌≡◌};
+ghost use Rattle.std.specs.Prelude.{◌≡◌, ◌<◌};
 
 use crate::images;
 use output::Refusal;
@@ -69,16 +69,28 @@ pub(crate) fn contents(page: &mut Page<Stdout>, bytes: &[u8], switch: Switch, im
     line(page, framed(bytes, &mut room), switch, image);
 }
 
+// Each behind a space, in two digits. They are handed on in one piece, since the system is called for each.
 pub(crate) fn print_bytes(page: &mut Page<Stdout>, bytes: &[u8]) {
     for b in bytes {
-        page.next(format_args!("{b:02x}"));
+        page.text(&[b' ', digit(b >> 4), digit(b & 15)]);
+    }
+}
+
+// In hexadecimal, and in small letters.
+fn digit(half: u8) -> u8
+    requires { half < 16 }
+{
+    if half < 10 {
+        b'0' + half
+    } else {
+        b'a' + (half - 10)
     }
 }
 
 // The number, the length, how many bytes of the output behind that length are as they were, and the written bytes in hexadecimal. A refusal writes none.
 fn show(page: &mut Page<Stdout>, answer: Result<usize, Refusal>, out: &[u8]) {
     page.print(page::number(&answer));
-    let n = answer.unwrap_or(0);
+    let n = page::length(&answer);
     let (written, behind) = out.split_at(n.min(out.len()));
     page.next(n);
     page.next(behind.iter().take_while(|b| **b == FILLER).count());

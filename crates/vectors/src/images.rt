@@ -2,12 +2,11 @@
 ghost use Rattle.std.specs.Prelude.{◌≡◌, ◌≢◌};
 ghost use Rattle.laws.specs.Checks.{first_failing};
 ghost use Rattle.image.specs.Version.{current};
-ghost use Rattle.tables.specs.Quantity.{quantity_of, table_bytes, quantity_checks, answered};
+ghost use Rattle.tables.specs.Quantity.{table_bytes, quantity_checks, answered};
 ghost use Rattle.survey.specs.File.{file_checks};
 ghost use Rattle.survey.specs.Described.{Says};
 
 use image::{Cell, Version};
-use output::Refusal;
 use page::Page;
 use std::io::Stdout;
 
@@ -22,7 +21,8 @@ pub(crate) fn put(image: &mut [u8], at: usize, bytes: &[u8]) {
 
 // n bytes from `from` on, or as many as there are, so that no caller has a slice of n to give.
 pub(crate) fn get(page: &mut Page<Stdout>, image: &[u8], from: usize, n: u8) {
-    let mut bytes = image.iter().skip(from).take(usize::from(n));
+    let rest = image.get(from..).unwrap_or(&[]);
+    let mut bytes = rest.iter().take(usize::from(n));
     if let Some(first) = bytes.next() {
         page.print(*first);
     }
@@ -34,8 +34,9 @@ pub(crate) fn get(page: &mut Page<Stdout>, image: &[u8], from: usize, n: u8) {
 // The offset and the value of each byte from `from` on that is not 0. Where more stands before them, the first has its space too; that stays a flag, since
 // it decides nothing else.
 pub(crate) fn list(page: &mut Page<Stdout>, image: &[u8], from: usize, mut more: bool) {
-    for (i, b) in image.iter().enumerate() {
-        if from <= i && *b != 0 {
+    let rest = image.get(from..).unwrap_or(&[]);
+    for (i, b) in (from..image.len()).zip(rest) {
+        if *b != 0 {
             if more {
                 page.text(b" ");
             }
@@ -74,25 +75,27 @@ pub(crate) fn held(page: &mut Page<Stdout>, image: &[u8], table: u32) {
     page.next(missing);
 }
 
-// By the promise of the question alone: what it says of this table's number and of this very level, neither of them cut, is put to use here.
-fn volume_at(m: &[u8], table: u32, asked: u32) -> Result<u16, Refusal>
-    ensures number_value { (quantity_of result).number ≡ first_failing (quantity_checks current m.now table asked) }
-    ensures value { (quantity_of result).number ≡ 0 → quantity_of result ≡ answered (table_bytes m.now table) asked }
-    ensures volume_value { (quantity_of result).number ≢ 0 → (quantity_of result).volume ≡ 0 }
+// By the promise of the question alone, with what the two that report say of any result: what it says of this table's number and of this very level,
+// neither of them cut, is put to use here.
+fn volume_at(m: &[u8], table: u32, asked: u32) -> (u8, u16)
+    ensures number_value { result.0 ≡ first_failing (quantity_checks current m.now table asked) }
+    ensures value { result.0 ≡ 0 → record { number = result.0; volume = result.1 } ≡ answered (table_bytes m.now table) asked }
+    ensures volume_value { result.0 ≢ 0 → result.1 ≡ 0 }
 {
-    tables::quantity_at(m, table, asked)
+    let answer = tables::quantity_at(m, table, asked);
+    (page::number(&answer), tables::reported_volume(&answer))
 }
 
-// By a table whose number is one byte, or two with the high byte first. A refusal has volume 0, as document 02 has it.
+// By a table whose number is one byte, or two with the high byte first.
 pub(crate) fn quantity(page: &mut Page<Stdout>, image: &[u8], level: u32, bytes: &[u8]) {
     let table = match bytes {
         [] => 0,
         [number] => u32::from(*number),
         [high, low, ..] => u32::from(u16::from_be_bytes([*high, *low])),
     };
-    let volume = volume_at(image, table, level);
-    page.print(page::number(&volume));
-    page.next(volume.unwrap_or(0));
+    let (number, volume) = volume_at(image, table, level);
+    page.print(number);
+    page.next(volume);
 }
 
 // By the promise of the checker alone: what it says of these very bytes is put to use here.

@@ -4,7 +4,7 @@
 ghost use Rattle.std.specs.Prelude.{◌<◌, ◌≤◌, length, IfSome};
 ghost use Rattle.vectors.specs.declared.script.TheConstants.{ROOM};
 
-// How many bytes of one step there is room for. What has none is dropped.
+// How many bytes of one step there is room for. What has none is not laid, and waits.
 const ROOM: usize = 299;
 
 // A text or a step, what it stops at, and what is left behind that.
@@ -95,6 +95,8 @@ impl Step {
             b' ' => self.end_digits(),
             b':' => self.number = self.digits.take().unwrap_or(0),
             b'@' => self.until = true,
+            // A NUL is no word, and leaves a step without one.
+            0 => {}
             _ => {
                 if self.letter.is_none() {
                     self.letter = Some(c);
@@ -113,26 +115,36 @@ impl Step {
         }
     }
 
-    // The end of digits, if there were any: a byte, or behind an @ the number of the byte that comes next. A byte is the remainder by
-    // 256, which `as` leaves as it is: a TryFrom would have a failure that never comes,
-    // and so would one that widens.
+    // The end of digits, if there were any. What could not be laid waits with its @, and further digits go behind it.
     fn end_digits(&mut self) {
-        if let Some(n) = self.digits.take() {
-            if self.until {
-                let last = self.bytes().last().copied().unwrap_or(0);
-                self.fill((n as usize).saturating_sub(1), last);
-            } else {
-                self.fill(self.len + 1, (n % 256) as u8);
-            }
+        if let Some(n) = self.digits
+            && self.lay(n)
+        {
+            self.digits = None;
             self.until = false;
         }
     }
 
-    // The bytes up to this length are b.
-    fn fill(&mut self, len: usize, b: u8) {
-        if self.len <= len && len <= ROOM {
+    // A byte, or behind an @ the number of the byte that comes next: whether there was a place for it. A byte is the remainder by 256, which `as` leaves as
+    // it is: a TryFrom would have a failure that never comes, and so would one that widens.
+    fn lay(&mut self, n: u32) -> bool {
+        if !self.until {
+            return self.fill(self.len + 1, (n % 256) as u8);
+        }
+        let last = self.bytes().last().copied().unwrap_or(0);
+        match (n as usize).checked_sub(1) {
+            Some(len) => self.fill(len, last),
+            None => false,
+        }
+    }
+
+    // The bytes up to this length are b, where those that are there leave them and there is room: whether it was so.
+    fn fill(&mut self, len: usize, b: u8) -> bool {
+        let fits = self.len <= len && len <= ROOM;
+        if fits {
             self.room[self.len..len].fill(b);
             self.len = len;
         }
+        fits
     }
 }

@@ -1,5 +1,6 @@
 // The steps in turn. Each prints itself and, behind an equals sign, what comes out; in a line with text, the text and what comes out.
 ghost use Rattle.std.specs.Prelude.{◌≤◌};
+ghost use Rattle.std.specs.Option.{ForSome};
 ghost use Rattle.vectors.specs.declared.steps.TheConstants.{LONGER};
 
 use crate::script::Step;
@@ -8,8 +9,8 @@ use image::IMAGE_LENGTH;
 use listener::Listener;
 use page::Page;
 use rules::Switch;
+use std::io;
 use std::io::Stdout;
-use std::{io, mem};
 
 // One byte more than an image has.
 const LONGER: usize = IMAGE_LENGTH + 1;
@@ -22,16 +23,17 @@ pub enum Next {
     Unshown,
 }
 
-// Between two stops of a line: what comes next, how much of the image buffer it is lent (no heap: the buffer is fixed), whether that has changed places with
-// the second one (two buffers, so a flag says it all), how the key switch stands, and the listener's record.
+// Between two stops of a line: what comes next, how much of the image buffer it is lent (no heap: the buffer is fixed), which is nothing once more was asked
+// than there is, whether that has changed places with the second one (two buffers, so a flag says it all), how the key switch stands, and the listener's
+// record.
 #[derive(Clone, Copy)]
 pub struct Turn {
     next: Next,
-    long: usize,
+    long: Option<usize>,
     turned: bool,
     switch: Switch,
     listener: Listener,
-    ghost within: { long ≤ LONGER },
+    ghost within: { ForSome long (λ n. n ≤ LONGER) },
 }
 
 impl Turn {
@@ -39,7 +41,7 @@ impl Turn {
     fn new() -> Turn {
         Turn {
             next: Next::Step,
-            long: IMAGE_LENGTH,
+            long: Some(IMAGE_LENGTH),
             turned: false,
             switch: Switch::Unsealed,
             listener: listener::idle(),
@@ -47,7 +49,7 @@ impl Turn {
     }
 }
 
-// Where it prints, the two buffers in the places that they have now, and the line's turn.
+// Where it prints, the two buffers in the places that they have as a line starts, and the line's turn.
 #[derive(Drop)]
 pub struct Bench {
     page: Page<Stdout>,
@@ -92,7 +94,7 @@ impl Bench {
             self.echo(b";");
         } else {
             self.page.text(b"\n");
-            self.end_line();
+            self.turn = Turn::new();
         }
     }
 
@@ -113,64 +115,68 @@ impl Bench {
         }
     }
 
-    fn end_line(&mut self) {
-        if self.turn.turned {
-            self.exchange();
-        }
-        self.turn = Turn::new();
-    }
-
-    fn exchange(&mut self) {
-        mem::swap(&mut self.image, &mut self.second);
-        self.turn.turned = !self.turn.turned;
-    }
-
-    // A step. The letters are the script's own form, and mean something here, in `show` and in `show_of` alone: an enum would have them once more.
+    // A step, which does nothing where a length before it in its line was more than there is. The letters are the script's own form, and mean something here,
+    // in `show` and in `show_of` alone: an enum would have them once more.
     fn run(&mut self, step: &Step) {
+        let Some(long) = self.turn.long else {
+            return;
+        };
+        let (image, _) = placed(&self.turn, &mut self.image, &mut self.second);
         let number = step.place();
         let bytes = step.bytes();
         let (a, _) = step.first_two();
         match step.letter {
-            Some(b'e') => self.exchange(),
+            Some(b'e') => self.turn.turned = !self.turn.turned,
             Some(b'f') => {
-                let long = self.turn.long;
                 // What it has done the next step shows.
-                let _ = izk::fresh(&mut self.image[..long], a);
+                let _ = izk::fresh(&mut image[..long], a);
             }
-            Some(b'j') => answers::join(bytes, number, &mut self.image),
+            Some(b'j') => answers::join(bytes, number, image),
             Some(b'k') => {
                 self.turn.switch = match a {
                     1 => Switch::Sealed,
                     _ => Switch::Unsealed,
                 }
             }
-            Some(b'l') => self.turn.long = number.min(LONGER),
-            Some(b'p') => images::put(&mut self.image, number, bytes),
+            Some(b'l') => self.turn.long = (number <= LONGER).then_some(number),
+            Some(b'p') => images::put(image, number, bytes),
             Some(b'r') => self.turn.listener = line::recorded(number, bytes),
-            Some(b'w') => self.image.fill(a),
+            Some(b'w') => image.fill(a),
             _ => {
                 self.echo(b" = ");
-                self.show(step);
+                self.show(step, long);
             }
         }
     }
 
     // A step that prints, and not of the image alone.
-    fn show(&mut self, step: &Step) {
-        let long = self.turn.long;
+    fn show(&mut self, step: &Step, long: usize)
+        requires { long ≤ LONGER }
+    {
+        let (image, second) = placed(&self.turn, &mut self.image, &mut self.second);
         let (a, _) = step.first_two();
         match step.letter {
             Some(b'o') => line::off(&mut self.page, &mut self.turn.listener, step.bytes()),
             Some(b'v') => {
-                if let Some(target) = self.second.get_mut(..step.place()) {
-                    images::moved(&mut self.page, &self.image[..long], a, target);
+                if let Some(target) = second.get_mut(..step.place()) {
+                    images::moved(&mut self.page, &image[..long], a, target);
                 }
             }
-            _ => {
-                let image = &mut self.image[..];
-                show_of(&mut self.page, step, self.turn.switch, &mut image[..long]);
-            }
+            _ => show_of(&mut self.page, step, self.turn.switch, &mut image[..long]),
         }
+    }
+}
+
+// The image buffer, then the second one: they have changed places by a flag, so that no byte is copied for it.
+fn placed<'a>(
+    turn: &Turn,
+    image: &'a mut [u8; LONGER],
+    second: &'a mut [u8; LONGER],
+) -> (&'a mut [u8; LONGER], &'a mut [u8; LONGER]) {
+    if turn.turned {
+        (second, image)
+    } else {
+        (image, second)
     }
 }
 
